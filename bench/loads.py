@@ -26,19 +26,22 @@ from afp_files import step, words_for
 TABLE = "CREATE TABLE records (key BLOB NOT NULL PRIMARY KEY, value BLOB NOT NULL) STRICT"
 NODES, BLOCK = 100000, 4096
 NEVER = bytes.fromhex("80000000")
+# The version of records; owner, group and rights of a directory that is the guest's, and of a file.
+VERSION = struct.pack(">H", 2)
+GUEST, NONE = struct.pack(">II", 500, 500) + b"\7\7\7", bytes(11)
 MIB = 1 << 20
 
 
 def node(number, length):
     """The record of a file in the root."""
-    value = struct.pack(">BIH", 0, 2, 0) + bytes(8) + NEVER + bytes(32) + b"\0" + struct.pack(">QQ", length, 0) + b"f%06d" % number
+    value = struct.pack(">BIH", 0, 2, 0) + bytes(8) + NEVER + bytes(32) + b"\0" + struct.pack(">QQ", length, 0) + NONE + b"f%06d" % number
     return b"\1" + struct.pack(">I", number), value
 
 
 def records_of(files, size, nodes):
     """The records of a volume of so many nodes, whose first files have that many bytes each."""
-    yield b"\0", struct.pack(">H", 1) + bytes(8) + NEVER + struct.pack(">Q", nodes + 16)
-    yield b"\1" + struct.pack(">I", 2), struct.pack(">BIH", 1, 1, 0) + bytes(8) + NEVER + bytes(32) + b"\0" + bytes(16) + b"Share"
+    yield b"\0", VERSION + bytes(8) + NEVER + struct.pack(">Q", nodes + 16)
+    yield b"\1" + struct.pack(">I", 2), struct.pack(">BIH", 1, 1, 0) + bytes(8) + NEVER + bytes(32) + b"\0" + bytes(16) + GUEST + b"Share"
     for at in range(nodes - 1):
         yield node(17 + at, size if at < files else 0)
     for at in range(files):
@@ -102,8 +105,8 @@ def commits(path, first, count):
     database.execute("PRAGMA synchronous = full")
     begun = time.monotonic()
     for at in range(first, first + count):
-        head = b"\0", struct.pack(">H", 1) + bytes(8) + NEVER + struct.pack(">Q", 18 + at)
-        root = b"\1" + struct.pack(">I", 2), struct.pack(">BIHI", 1, 1, 0, at) + bytes(4) + NEVER + bytes(32) + b"\0" + bytes(16) + b"Share"
+        head = b"\0", VERSION + bytes(8) + NEVER + struct.pack(">Q", 18 + at)
+        root = b"\1" + struct.pack(">I", 2), struct.pack(">BIHI", 1, 1, 0, at) + bytes(4) + NEVER + bytes(32) + b"\0" + bytes(16) + GUEST + b"Share"
         database.execute("BEGIN IMMEDIATE")
         for record in (head, root, node(17 + at, 0)):
             database.execute("INSERT INTO records VALUES (?, ?) ON CONFLICT (key) DO UPDATE SET value = excluded.value", record)

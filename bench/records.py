@@ -66,10 +66,25 @@ def show_load(program, folder):
     step("the file is sound", sound, "ok")
     step("it has two records", [key.hex() for key, _ in records], ["00", "0100000002"])
     head = records[0][1].hex()
-    step("the head: form 1, two equal dates, never backed up, the next id 17", (head[:4], head[4:12] == head[12:20], head[20:]), ("0001", True, "80000000" + "0000000000000011"))
+    step("the head: version 2, two equal dates, never backed up, the next id 17", (head[:4], head[4:12] == head[12:20], head[20:]), ("0002", True, "80000000" + "0000000000000011"))
+    step("the root is the guest's, with all rights for all", records[1][1][68:], b"\0\0\1\xf4\0\0\1\xf4\7\7\7Share")
     step("a server on it again", served_once(program, path), ("(nodes 1)", 0))
     step("its records are the same", records_of(path)[1], records)
     return records
+
+
+def show_older(program, folder, records):
+    """Records of the version before, which has no owner, group and rights: a start turns them into those of this version."""
+    older = [(key, b"\0\1" + value[2:] if key == b"\0" else value[:68] + value[79:]) for key, value in records]
+    path = os.path.join(folder, "older.db")
+    make(path, older)
+    step("a server on records of the version before", served_once(program, path), ("(nodes 1)", 0))
+    step("they are of this version then", records_of(path)[1], records)
+    step("a server on them again", served_once(program, path), ("(nodes 1)", 0))
+    bad = os.path.join(folder, "older_bad.db")
+    make(bad, older + [(b"\6", b"")])
+    step("the version before, with a record at 06", served_once(program, bad), (3, "load 1 bad 06 shape\n"))
+    step("  nothing is changed", records_of(bad)[1], older + [(b"\6", b"")])
 
 
 def show_bad(program, folder, records):
@@ -165,6 +180,7 @@ def main():
     program = parser.parse_args().program
     with tempfile.TemporaryDirectory() as folder:
         records = show_load(program, folder)
+        show_older(program, folder, records)
         show_bad(program, folder, records)
         show_other(program, folder, records)
         show_stops(program, folder)

@@ -1,19 +1,20 @@
-//! A keeper in memory whose volume has given out its last id.
+//! A keeper in memory whose volume has given out its last id, with records of the older version.
 use afp_base::{Bytes, OutOfMemory};
 use record_keeper::{Change, Keeper, MemoryKeeper, Record};
 use std::alloc::Global;
 use volume_keeper_records::{Head, Node, TableRow, record_of};
 use volume_spec::limits::NEVER;
 
-/// The head whose next id is past the last.
+/// The head whose next id is past the last, as the older version has it.
 const HEAD: Head = Head {
+    version: 1,
     created: 100,
     modified: 100,
     backup: NEVER,
     next_id: 0x1_0000_0000,
 };
 
-/// The root, of this name.
+/// The root, of this name, as the older version has it.
 fn root(alloc: Global, name: &str) -> Result<TableRow, OutOfMemory> {
     Ok(TableRow::Node(Node {
         id: 2,
@@ -27,6 +28,7 @@ fn root(alloc: Global, name: &str) -> Result<TableRow, OutOfMemory> {
         is_filed: false,
         data_length: 0,
         resource_length: 0,
+        privileges: None,
         name: Bytes::of(alloc, name.as_bytes())?,
     }))
 }

@@ -1,14 +1,18 @@
 //! The lines of a run.
 use test_lines::{kind_of, last_word, small_number_at, word_at};
 
-/// What a line does: it takes a new keeper, puts a record or takes one away, puts the records of many directories, one in the other, of
-/// many icons or of many APPL mappings, loads the volume, also to show what it has of a creator, or reads a value.
+/// What a line does: it takes a new keeper, also one of whose calls one fails, puts a record, also as the older version has it, or takes one away, puts the records
+/// of many directories, one in the other, of many icons or of many APPL mappings, loads the volume, also to show what it has of a creator, or reads a value.
 #[derive(Clone, Copy, PartialEq, Eq)]
 pub enum Kind {
     New,
+    Failing,
     Head,
     Dir,
     File,
+    OldHead,
+    OldDir,
+    OldFile,
     Block,
     Comment,
     Icon,
@@ -27,11 +31,15 @@ pub enum Kind {
 }
 
 /// The word of each kind.
-const KINDS: [(&str, Kind); 19] = [
+const KINDS: [(&str, Kind); 23] = [
     ("new", Kind::New),
+    ("failing", Kind::Failing),
     ("head", Kind::Head),
     ("dir", Kind::Dir),
     ("file", Kind::File),
+    ("old-head", Kind::OldHead),
+    ("old-dir", Kind::OldDir),
+    ("old-file", Kind::OldFile),
     ("block", Kind::Block),
     ("comment", Kind::Comment),
     ("icon", Kind::Icon),

@@ -3,16 +3,22 @@ use crate::line::{Kind, Line};
 use afp_base::{Bytes, OutOfMemory};
 use std::alloc::Global;
 use test_lines::bytes_of;
-use volume_keeper_records::{Appl, Comment, ForkBlock, Head, Icon, Node, TableRow};
+use volume_keeper_records::{
+    Appl, Comment, ForkBlock, Head, Icon, Node, Privileges, TableRow, VERSION, guest_privileges,
+};
+
+/// The older version, whose nodes have no owner, group and rights.
+const OLD_VERSION: u16 = 1;
 
 /// The bytes that hexadecimal digits spell; none, where they spell none.
 pub fn owned(alloc: Global, digits: &str) -> Result<Bytes, OutOfMemory> {
     Bytes::of(alloc, bytes_of(alloc, digits).as_slice())
 }
 
-/// A head of zeros with this next id.
-pub fn head(next_id: u32) -> TableRow {
+/// A head of zeros of a version, with this next id.
+fn head(version: u16, next_id: u32) -> TableRow {
     TableRow::Head(Head {
+        version,
         created: 0,
         modified: 0,
         backup: 0,
@@ -20,12 +26,25 @@ pub fn head(next_id: u32) -> TableRow {
     })
 }
 
-/// A directory, or a file with so many bytes in its data fork; all else of it is zeros.
+/// A directory, or a file with so many bytes in its data fork; a directory is the guest's, and all else of it is zeros.
 pub fn node(
     alloc: Global,
     id: u32,
     parent: u32,
     length: Option<u32>,
+    name: &str,
+) -> Result<TableRow, OutOfMemory> {
+    let privileges = Some(guest_privileges(length.is_none()));
+    node_with(alloc, id, parent, length, privileges, name)
+}
+
+/// The same with this owner, this group and these rights; none, as the older version has it.
+fn node_with(
+    alloc: Global,
+    id: u32,
+    parent: u32,
+    length: Option<u32>,
+    privileges: Option<Privileges>,
     name: &str,
 ) -> Result<TableRow, OutOfMemory> {
     let data_length = match length {
@@ -44,6 +63,7 @@ pub fn node(
         is_filed: false,
         data_length,
         resource_length: 0,
+        privileges,
         name: Bytes::of(alloc, name.as_bytes())?,
     }))
 }
@@ -108,6 +128,9 @@ pub fn row_of(alloc: Global, line: &Line<'_>) -> Result<TableRow, OutOfMemory> {
     match line.kind {
         Kind::Dir => node(alloc, first, second, None, line.text),
         Kind::File => node(alloc, first, second, Some(third), line.text),
+        Kind::OldDir => node_with(alloc, first, second, None, None, line.text),
+        Kind::OldFile => node_with(alloc, first, second, Some(third), None, line.text),
+        Kind::OldHead => Ok(head(OLD_VERSION, first)),
         Kind::Block => Ok(TableRow::Block(ForkBlock {
             node: first,
             is_resource: second == 1,
@@ -125,6 +148,6 @@ pub fn row_of(alloc: Global, line: &Line<'_>) -> Result<TableRow, OutOfMemory> {
             node: first,
             tag: second,
         })),
-        _ => Ok(head(first)),
+        _ => Ok(head(VERSION, first)),
     }
 }

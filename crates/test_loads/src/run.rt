@@ -140,6 +140,15 @@ impl Run {
         }
     }
 
+    /// A keeper whose call of this number fails, from 0.
+    fn failing(alloc: Global, call: u32) -> Result<Run, OutOfMemory> {
+        let mut calls = Vec::new(alloc);
+        calls.push(u64::from(call))?;
+        Ok(Run {
+            keeper: MemoryKeeper::new(alloc, calls),
+        })
+    }
+
     fn change(&mut self, alloc: Global, line: &Line<'_>) -> Result<LineResult, OutOfMemory> {
         let changes = changes_of(alloc, line)?;
         match self.keeper.commit(alloc, changes.as_slice()) {
@@ -179,6 +188,10 @@ impl Run {
         match line.kind {
             Kind::New => {
                 *self = Run::new(alloc);
+                Ok(LineResult::Nothing)
+            }
+            Kind::Failing => {
+                *self = Run::failing(alloc, line.numbers[0])?;
                 Ok(LineResult::Nothing)
             }
             Kind::Load => self.load(alloc, line),

@@ -15,6 +15,7 @@ use Rattle.volume_spec.specs.Desktop.{IsDesktop, appl_at, comment_key, has_no_ap
 use Rattle.volume_spec.specs.DesktopLaws.{IconHasParts}
 use Rattle.volume_keeper_records.specs.declared.rows.TableRow.{TableRow}
 use Rattle.volume_keeper_records.specs.declared.rows.TableRow.TheVariants as row
+use Rattle.volume_keeper_records.specs.Records.{version}
 use Rattle.volume_keeper_records.specs.Image.{fork_blocks, node_of, rows_of, tables_of}
 use Rattle.volume_keeper.specs.lemma.Rebuilt.{HasApplRoom, HasIconRoom, HaveRoom, appls_with, comments_with, icons_with, with_all}
 use Rattle.afp_base.proofs.Facts.{left_true, right_true}
@@ -157,7 +158,7 @@ appl_room a done less = ap (λ b. b && is_none (appl_at a.creator a.node done)) 
 
 module _ (v : VolumeState) where
   abbrev nodes : List TableRow
-  nodes = map (λ n. row.Node n) (map node_of v.rows)
+  nodes = map (λ n. row.Node n) (map (node_of version) v.rows)
 
   abbrev blocks : List TableRow
   blocks = map (λ b. row.Block b) (flat_map fork_blocks v.rows)
@@ -171,8 +172,8 @@ module _ (v : VolumeState) where
   abbrev appls : List TableRow
   appls = map (λ a. row.Appl a) v.appls
 
-  module _ {A : Type 0} (put : TableRow → List A → List A) (head : put (row.Head (tables_of v).head) [] ≡ []) where
-    parts_of : with_all put (rows_of (tables_of v)) [] ≡ with_all put appls (with_all put icons (with_all put comments (with_all put blocks (with_all put nodes []))))
+  module _ {A : Type 0} (put : TableRow → List A → List A) (head : put (row.Head (tables_of version v).head) [] ≡ []) where
+    parts_of : with_all put (rows_of (tables_of version v)) [] ≡ with_all put appls (with_all put icons (with_all put comments (with_all put blocks (with_all put nodes []))))
     parts_of =
         ap (with_all put (nodes ++ (blocks ++ (comments ++ (icons ++ appls))))) head
         ∙ with-append put nodes (blocks ++ (comments ++ (icons ++ appls))) []
@@ -181,32 +182,32 @@ module _ (v : VolumeState) where
         ∙ with-append put icons appls (with_all put comments (with_all put blocks (with_all put nodes [])))
 
   module _ (desktop : IsDesktop v.comments v.icons v.appls) where
-    pub comments_again : with_all comments_with (rows_of (tables_of v)) [] ≡ v.comments
+    pub comments_again : with_all comments_with (rows_of (tables_of version v)) [] ≡ v.comments
     comments_again =
         parts_of comments_with refl
         ∙ with-none comments_with (λ a. row.Appl a) (λ a l. refl) v.appls _
         ∙ with-none comments_with (λ i. row.Icon i) (λ i l. refl) v.icons _
-        ∙ ap (with_all comments_with comments) (with-none comments_with (λ b. row.Block b) (λ b l. refl) (flat_map fork_blocks v.rows) _ ∙ with-none comments_with (λ n. row.Node n) (λ n l. refl) (map node_of v.rows) [])
+        ∙ ap (with_all comments_with comments) (with-none comments_with (λ b. row.Block b) (λ b l. refl) (flat_map fork_blocks v.rows) _ ∙ with-none comments_with (λ n. row.Node n) (λ n l. refl) (map (node_of version) v.rows) [])
         ∙ list_again comment_key comments_with (λ c. row.Comment c) is_comment comment_in v.comments desktop.comments_formed desktop.comments_rise
 
-    pub icons_again : IconHasParts → with_all icons_with (rows_of (tables_of v)) [] ≡ v.icons
+    pub icons_again : IconHasParts → with_all icons_with (rows_of (tables_of version v)) [] ≡ v.icons
     icons_again parts =
         parts_of icons_with refl
         ∙ with-none icons_with (λ a. row.Appl a) (λ a l. refl) v.appls _
-        ∙ ap (with_all icons_with icons) (with-none icons_with (λ c. row.Comment c) (λ c l. refl) v.comments _ ∙ with-none icons_with (λ b. row.Block b) (λ b l. refl) (flat_map fork_blocks v.rows) _ ∙ with-none icons_with (λ n. row.Node n) (λ n l. refl) (map node_of v.rows) [])
+        ∙ ap (with_all icons_with icons) (with-none icons_with (λ c. row.Comment c) (λ c l. refl) v.comments _ ∙ with-none icons_with (λ b. row.Block b) (λ b l. refl) (flat_map fork_blocks v.rows) _ ∙ with-none icons_with (λ n. row.Node n) (λ n l. refl) (map (node_of version) v.rows) [])
         ∙ list_again icon_key icons_with (λ i. row.Icon i) is_icon (icon_in parts) v.icons desktop.icons_formed desktop.icons_rise
 
-    pub appls_again : with_all appls_with (rows_of (tables_of v)) [] ≡ v.appls
+    pub appls_again : with_all appls_with (rows_of (tables_of version v)) [] ≡ v.appls
     appls_again =
         parts_of appls_with refl
-        ∙ ap (with_all appls_with appls) (with-none appls_with (λ i. row.Icon i) (λ i l. refl) v.icons _ ∙ with-none appls_with (λ c. row.Comment c) (λ c l. refl) v.comments _ ∙ with-none appls_with (λ b. row.Block b) (λ b l. refl) (flat_map fork_blocks v.rows) _ ∙ with-none appls_with (λ n. row.Node n) (λ n l. refl) (map node_of v.rows) [])
+        ∙ ap (with_all appls_with appls) (with-none appls_with (λ i. row.Icon i) (λ i l. refl) v.icons _ ∙ with-none appls_with (λ c. row.Comment c) (λ c l. refl) v.comments _ ∙ with-none appls_with (λ b. row.Block b) (λ b l. refl) (flat_map fork_blocks v.rows) _ ∙ with-none appls_with (λ n. row.Node n) (λ n l. refl) (map (node_of version) v.rows) [])
         ∙ list_again appl_key appls_with (λ a. row.Appl a) (λ a. true) (λ a done g e. appl_in a done e) v.appls (all-always v.appls) desktop.appls_rise
 
-    pub icons_have_room : IconHasParts → HaveRoom HasIconRoom icons_with (rows_of (tables_of v)) []
+    pub icons_have_room : IconHasParts → HaveRoom HasIconRoom icons_with (rows_of (tables_of version v)) []
     icons_have_room parts =
-        let none = with-none icons_with (λ c. row.Comment c) (λ c l. refl) v.comments _ ∙ with-none icons_with (λ b. row.Block b) (λ b l. refl) (flat_map fork_blocks v.rows) _ ∙ with-none icons_with (λ n. row.Node n) (λ n l. refl) (map node_of v.rows) [] in (
+        let none = with-none icons_with (λ c. row.Comment c) (λ c l. refl) v.comments _ ∙ with-none icons_with (λ b. row.Block b) (λ b l. refl) (flat_map fork_blocks v.rows) _ ∙ with-none icons_with (λ n. row.Node n) (λ n l. refl) (map (node_of version) v.rows) [] in (
           tt,
-          have-append HasIconRoom icons_with nodes (blocks ++ (comments ++ (icons ++ appls))) [] (have-none HasIconRoom icons_with (λ n. row.Node n) (λ n l. tt) (map node_of v.rows) [])
+          have-append HasIconRoom icons_with nodes (blocks ++ (comments ++ (icons ++ appls))) [] (have-none HasIconRoom icons_with (λ n. row.Node n) (λ n l. tt) (map (node_of version) v.rows) [])
               (have-append HasIconRoom icons_with blocks (comments ++ (icons ++ appls)) _ (have-none HasIconRoom icons_with (λ b. row.Block b) (λ b l. tt) (flat_map fork_blocks v.rows) _)
               (have-append HasIconRoom icons_with comments (icons ++ appls) _ (have-none HasIconRoom icons_with (λ c. row.Comment c) (λ c l. tt) v.comments _)
               (have-append HasIconRoom icons_with icons appls _
@@ -214,11 +215,11 @@ module _ (v : VolumeState) where
               (have-none HasIconRoom icons_with (λ a. row.Appl a) (λ a l. tt) v.appls _)))),
         )
 
-    pub appls_have_room : HaveRoom HasApplRoom appls_with (rows_of (tables_of v)) []
+    pub appls_have_room : HaveRoom HasApplRoom appls_with (rows_of (tables_of version v)) []
     appls_have_room =
-        let none = with-none appls_with (λ i. row.Icon i) (λ i l. refl) v.icons _ ∙ with-none appls_with (λ c. row.Comment c) (λ c l. refl) v.comments _ ∙ with-none appls_with (λ b. row.Block b) (λ b l. refl) (flat_map fork_blocks v.rows) _ ∙ with-none appls_with (λ n. row.Node n) (λ n l. refl) (map node_of v.rows) [] in (
+        let none = with-none appls_with (λ i. row.Icon i) (λ i l. refl) v.icons _ ∙ with-none appls_with (λ c. row.Comment c) (λ c l. refl) v.comments _ ∙ with-none appls_with (λ b. row.Block b) (λ b l. refl) (flat_map fork_blocks v.rows) _ ∙ with-none appls_with (λ n. row.Node n) (λ n l. refl) (map (node_of version) v.rows) [] in (
           tt,
-          have-append HasApplRoom appls_with nodes (blocks ++ (comments ++ (icons ++ appls))) [] (have-none HasApplRoom appls_with (λ n. row.Node n) (λ n l. tt) (map node_of v.rows) [])
+          have-append HasApplRoom appls_with nodes (blocks ++ (comments ++ (icons ++ appls))) [] (have-none HasApplRoom appls_with (λ n. row.Node n) (λ n l. tt) (map (node_of version) v.rows) [])
               (have-append HasApplRoom appls_with blocks (comments ++ (icons ++ appls)) _ (have-none HasApplRoom appls_with (λ b. row.Block b) (λ b l. tt) (flat_map fork_blocks v.rows) _)
               (have-append HasApplRoom appls_with comments (icons ++ appls) _ (have-none HasApplRoom appls_with (λ c. row.Comment c) (λ c l. tt) v.comments _)
               (have-append HasApplRoom appls_with icons appls _ (have-none HasApplRoom appls_with (λ i. row.Icon i) (λ i l. tt) v.icons _)

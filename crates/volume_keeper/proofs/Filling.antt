@@ -23,7 +23,7 @@ use Rattle.record_keeper.specs.Reading.{IsBelow, RisesByKey}
 use Rattle.volume_keeper_records.specs.declared.rows.ForkBlock.{ForkBlock}
 use Rattle.volume_keeper_records.specs.declared.rows.TableRow.{TableRow}
 use Rattle.volume_keeper_records.specs.declared.rows.TableRow.TheVariants as row
-use Rattle.volume_keeper_records.specs.Records.{record_of, block_record, block_tag, flag_byte, long_bytes}
+use Rattle.volume_keeper_records.specs.Records.{version, record_of, block_record, block_tag, flag_byte, long_bytes}
 use Rattle.volume_keeper_records.specs.Laws.{ImagesRise, TablesSayVolumes}
 use Rattle.volume_keeper_records.specs.Image.{fork_block_of, fork_blocks, node_of, rows_of, tables_of}
 use Rattle.volume_keeper_records.specs.FromTables.{own, fork_part, piece_of, pieces, row_from}
@@ -183,7 +183,7 @@ pieces_new (c ∷ bs) b e =
 
 -- a volume's tree with some of the blocks of its forks
 abbrev with_some : VolumeState → List ForkBlock → VolumeState
-with_some v bs = record v { rows = map (row_from bs) (map node_of v.rows); comments = []; icons = []; appls = [] }
+with_some v bs = record v { rows = map (row_from bs) (map (node_of version) v.rows); comments = []; icons = []; appls = [] }
 
 -- each row of the block's id has room for it
 abbrev RowsFit : ForkBlock → List VolumeRow → Type 0
@@ -218,24 +218,24 @@ module _ (laws : Laws) (bs : List ForkBlock) (b : ForkBlock) (new : list_any (sa
       splice_one laws (length x.resource_fork) (pieces bs x.id 1) (piece_of b) free w short some
       ∙ ap (bytes_of (length x.resource_fork)) (sym (pieces_put bs b x.id 1 e (ap (λ n. 1 == n) flag)))
 
-  file_more : (x : VolumeRow) (f : Bool) → b.is_resource ≡ f → (x.id == b.node) ≡ true → 4096 * b.index + length b.bytes ≤ length (fork_of f x) → filled_row f b.index b.bytes (row_from bs (node_of x)) ≡ row_from (bs ++ b ∷ []) (node_of x)
+  file_more : (x : VolumeRow) (f : Bool) → b.is_resource ≡ f → (x.id == b.node) ≡ true → 4096 * b.index + length b.bytes ≤ length (fork_of f x) → filled_row f b.index b.bytes (row_from bs (node_of version x)) ≡ row_from (bs ++ b ∷ []) (node_of version x)
   file_more x true f e w =
       let other = pieces_same bs b x.id 0 (ap (λ t. t && (0 == flag_byte b.is_resource)) e ∙ ap (λ r. 0 == flag_byte r) f) in
-      λ i. record (row_from bs (node_of x)) { data_fork = bytes_of (length x.data_fork) (sym other i); resource_fork = resource_more x e f w i }
+      λ i. record (row_from bs (node_of version x)) { data_fork = bytes_of (length x.data_fork) (sym other i); resource_fork = resource_more x e f w i }
   file_more x false f e w =
       let other = pieces_same bs b x.id 1 (ap (λ t. t && (1 == flag_byte b.is_resource)) e ∙ ap (λ r. 1 == flag_byte r) f) in
-      λ i. record (row_from bs (node_of x)) { data_fork = data_more x e f w i; resource_fork = bytes_of (length x.resource_fork) (sym other i) }
+      λ i. record (row_from bs (node_of version x)) { data_fork = data_more x e f w i; resource_fork = bytes_of (length x.resource_fork) (sym other i) }
 
-  row_more : (x : VolumeRow) → ((x.id == b.node) ≡ true → 4096 * b.index + length b.bytes ≤ length (fork_of b.is_resource x)) → change_at b.node (filled_row b.is_resource b.index b.bytes) (row_from bs (node_of x)) ≡ row_from (bs ++ b ∷ []) (node_of x)
-  row_more x w = elim (x.id == b.node) as (λ t. x.id == b.node ≡ t → cond t (filled_row b.is_resource b.index b.bytes (row_from bs (node_of x))) (row_from bs (node_of x)) ≡ row_from (bs ++ b ∷ []) (node_of x)) [
+  row_more : (x : VolumeRow) → ((x.id == b.node) ≡ true → 4096 * b.index + length b.bytes ≤ length (fork_of b.is_resource x)) → change_at b.node (filled_row b.is_resource b.index b.bytes) (row_from bs (node_of version x)) ≡ row_from (bs ++ b ∷ []) (node_of version x)
+  row_more x w = elim (x.id == b.node) as (λ t. x.id == b.node ≡ t → cond t (filled_row b.is_resource b.index b.bytes (row_from bs (node_of version x))) (row_from bs (node_of version x)) ≡ row_from (bs ++ b ∷ []) (node_of version x)) [
     | true ↦ λ e. file_more x b.is_resource refl e (w e)
     | false ↦ λ e.
         let zero_same = pieces_same bs b x.id 0 (ap (λ t. t && (0 == flag_byte b.is_resource)) e) in
         let one_same = pieces_same bs b x.id 1 (ap (λ t. t && (1 == flag_byte b.is_resource)) e) in
-        λ i. record (row_from bs (node_of x)) { data_fork = bytes_of (length x.data_fork) (sym zero_same i); resource_fork = bytes_of (length x.resource_fork) (sym one_same i) }
+        λ i. record (row_from bs (node_of version x)) { data_fork = bytes_of (length x.data_fork) (sym zero_same i); resource_fork = bytes_of (length x.resource_fork) (sym one_same i) }
   ] refl
 
-  rows_more : (rows : List VolumeRow) → RowsFit b rows → with_changed b.node (filled_row b.is_resource b.index b.bytes) (map (row_from bs) (map node_of rows)) ≡ map (row_from (bs ++ b ∷ [])) (map node_of rows)
+  rows_more : (rows : List VolumeRow) → RowsFit b rows → with_changed b.node (filled_row b.is_resource b.index b.bytes) (map (row_from bs) (map (node_of version) rows)) ≡ map (row_from (bs ++ b ∷ [])) (map (node_of version) rows)
   unfolding with_changed
   rows_more [] w = refl
   rows_more (x ∷ rows) w = λ i. row_more x w.0 i ∷ rows_more rows w.1 i
@@ -244,22 +244,22 @@ module _ (laws : Laws) (bs : List ForkBlock) (b : ForkBlock) (new : list_any (sa
   unfolding filled
   block_more v w = λ i. record (with_some v bs) { rows = rows_more v.rows w i }
 
-length_from : (laws : Laws) (bs : List ForkBlock) (f : Bool) (x : VolumeRow) → length (fork_of f (row_from bs (node_of x))) ≡ length (fork_of f x)
+length_from : (laws : Laws) (bs : List ForkBlock) (f : Bool) (x : VolumeRow) → length (fork_of f (row_from bs (node_of version x))) ≡ length (fork_of f x)
 length_from laws bs true x = laws.size (length x.resource_fork) (pieces bs x.id 1)
 length_from laws bs false x = laws.size (length x.data_fork) (pieces bs x.id 0)
 
-fork_there : (v : VolumeState) (bs : List ForkBlock) (id : ℕ) (f : Bool) (x : VolumeRow) → row_at v.rows id ≡ Some x → x.dir ≡ false → fork_at (with_some v bs).rows id f ≡ Some (fork_of f (row_from bs (node_of x)))
+fork_there : (v : VolumeState) (bs : List ForkBlock) (id : ℕ) (f : Bool) (x : VolumeRow) → row_at v.rows id ≡ Some x → x.dir ≡ false → fork_at (with_some v bs).rows id f ≡ Some (fork_of f (row_from bs (node_of version x)))
 unfolding fork_at row_at
 fork_there v bs id f x e d =
     ap (λ o. option_map (fork_of f) (file_of o))
-    (find-map (λ (r : VolumeRow). r.id == id) (row_from bs) (map node_of v.rows)
-    ∙ ap (option_map (row_from bs)) (find-map (λ n. (row_from bs n).id == id) node_of v.rows)
-    ∙ ap (λ o. option_map (row_from bs) (option_map node_of o)) e)
-    ∙ ap (λ t. option_map (fork_of f) (cond t None (Some (row_from bs (node_of x))))) d
+    (find-map (λ (r : VolumeRow). r.id == id) (row_from bs) (map (node_of version) v.rows)
+    ∙ ap (option_map (row_from bs)) (find-map (λ n. (row_from bs n).id == id) (node_of version) v.rows)
+    ∙ ap (λ o. option_map (row_from bs) (option_map (node_of version) o)) e)
+    ∙ ap (λ t. option_map (fork_of f) (cond t None (Some (row_from bs (node_of version x))))) d
 
 fits_more : (laws : Laws) (v : VolumeState) (bs : List ForkBlock) (b : ForkBlock) → HasPlace v b → FitsFork (with_some v bs) b.node b.is_resource b.index b.bytes
 fits_more laws v bs b place = record {
-  bytes = fork_of b.is_resource (row_from bs (node_of place.found));
+  bytes = fork_of b.is_resource (row_from bs (node_of version place.found));
   there = fork_there v bs b.node b.is_resource place.found place.here place.file;
   short = place.short;
   within = subst (λ n. 4096 * b.index + length b.bytes ≤ n) (sym (length_from laws bs b.is_resource place.found)) place.within;
@@ -433,7 +433,7 @@ module _ {A : Type 0} (make : A → TableRow) (fits : (a : A) (w : VolumeState) 
 begun : (v : VolumeState) → start v ≡ with_some v []
 begun v = λ i. record (start v) { rows = each v.rows i }
   where
-    each : (rows : List VolumeRow) → map zeroed rows ≡ map (row_from []) (map node_of rows)
+    each : (rows : List VolumeRow) → map zeroed rows ≡ map (row_from []) (map (node_of version) rows)
     each [] = refl
     each (r ∷ rows) = λ i. record r { data_fork = sym (zeros (length r.data_fork) (byte_at []) (λ k. refl)) i; resource_fork = sym (zeros (length r.resource_fork) (byte_at []) (λ k. refl)) i } ∷ each rows i
 
@@ -445,7 +445,7 @@ module _ (laws : Laws) (v : VolumeState) (sound : IsSoundVolume v) where
   blocks = flat_map fork_blocks v.rows
 
   abbrev nodes_rows : List TableRow
-  nodes_rows = map (λ n. row.Node n) (map node_of v.rows)
+  nodes_rows = map (λ n. row.Node n) (map (node_of version) v.rows)
 
   abbrev block_rows : List TableRow
   block_rows = map (λ b. row.Block b) (flat_map fork_blocks v.rows)
@@ -454,13 +454,13 @@ module _ (laws : Laws) (v : VolumeState) (sound : IsSoundVolume v) where
   others = map (λ c. row.Comment c) v.comments ++ (map (λ i. row.Icon i) v.icons ++ map (λ a. row.Appl a) v.appls)
 
   rising_blocks : RisesByKey (map record_of block_rows)
-  rising_blocks = (rows_ends block_rows others (rows_ends nodes_rows (block_rows ++ others) (laws.image v sound).1).1).0
+  rising_blocks = (rows_ends block_rows others (rows_ends nodes_rows (block_rows ++ others) (laws.image v version sound).1).1).0
 
   pub filled_from : FitRows block_rows (with_some v []) × (with_blocks block_rows (with_some v []) ≡ with_some v blocks)
   filled_from = fill_from laws v [] blocks (all_places laws v v.rows (each_one 0 v.rows (ids_rise v sound)) (rows_formed v sound)) (all_new [] blocks (none_done blocks) (apart_blocks blocks rising_blocks))
 
   nodes_none : (w : VolumeState) → with_blocks nodes_rows w ≡ w
-  nodes_none w = with-none (λ n. row.Node n) (λ n w. tt) (λ n w. refl) (map node_of v.rows) w
+  nodes_none w = with-none (λ n. row.Node n) (λ n w. tt) (λ n w. refl) (map (node_of version) v.rows) w
 
   others_none : (w : VolumeState) → with_blocks others w ≡ w
   others_none w =
@@ -475,14 +475,14 @@ module _ (laws : Laws) (v : VolumeState) (sound : IsSoundVolume v) where
       fit-append (map (λ c. row.Comment c) v.comments) (map (λ i. row.Icon i) v.icons ++ map (λ a. row.Appl a) v.appls) w (fit-none (λ c. row.Comment c) (λ c w. tt) (λ c w. refl) v.comments w)
       (fit-append (map (λ i. row.Icon i) v.icons) (map (λ a. row.Appl a) v.appls) _ (fit-none (λ i. row.Icon i) (λ i w. tt) (λ i w. refl) v.icons _) (fit-none (λ a. row.Appl a) (λ a w. tt) (λ a w. refl) v.appls _))
 
-  pub all_fit : FitRows (rows_of (tables_of v)) (start v)
-  all_fit = subst (FitRows (rows_of (tables_of v))) (sym (begun v)) (
+  pub all_fit : FitRows (rows_of (tables_of version v)) (start v)
+  all_fit = subst (FitRows (rows_of (tables_of version v))) (sym (begun v)) (
     tt,
-    fit-append nodes_rows (block_rows ++ others) (with_some v []) (fit-none (λ n. row.Node n) (λ n w. tt) (λ n w. refl) (map node_of v.rows) (with_some v []))
+    fit-append nodes_rows (block_rows ++ others) (with_some v []) (fit-none (λ n. row.Node n) (λ n w. tt) (λ n w. refl) (map (node_of version) v.rows) (with_some v []))
         (subst (FitRows (block_rows ++ others)) (sym (nodes_none (with_some v []))) (fit-append block_rows others (with_some v []) filled_from.0 (others_fit (with_blocks block_rows (with_some v []))))),
   )
 
-  pub all_filled : with_blocks (rows_of (tables_of v)) (start v) ≡ without_desktop v
+  pub all_filled : with_blocks (rows_of (tables_of version v)) (start v) ≡ without_desktop v
   all_filled =
       ap (with_blocks (nodes_rows ++ (block_rows ++ others))) (begun v)
       ∙ with-append nodes_rows (block_rows ++ others) (with_some v [])

@@ -1,5 +1,5 @@
-pub mod LookUps
 pub mod SoundRows
+pub mod Versions
 pub mod Loads
 pub mod Zeroed
 pub mod DesktopAgain

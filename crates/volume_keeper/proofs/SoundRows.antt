@@ -4,11 +4,12 @@ use Rattle.std.specs.Prelude.{◌==◌, ◌++◌, flat_map, is_none}
 use Rattle.std.specs.List.{list_all}
 use Rattle.volume_spec.specs.VolumeState.{Appl, Comment, Icon, Row as VolumeRow, VolumeState}
 use Rattle.volume_spec.specs.Order.{rises_from}
-use Rattle.volume_spec.specs.SoundVolume.{IsSoundVolume, is_formed, is_formed_volume, is_in_order, has_rising_ids, is_named}
+use Rattle.volume_spec.specs.SoundVolume.{IsSoundVolume, is_formed, is_formed_volume, is_in_order, has_fit_privileges, has_rising_ids, is_named}
 use Rattle.volume_keeper_records.specs.declared.rows.ForkBlock.{ForkBlock}
 use Rattle.volume_keeper_records.specs.declared.rows.Node.{Node}
 use Rattle.volume_keeper_records.specs.declared.rows.TableRow.{TableRow}
 use Rattle.volume_keeper_records.specs.declared.rows.TableRow.TheVariants as row
+use Rattle.volume_keeper_records.specs.Records.{version}
 use Rattle.volume_keeper_records.specs.Image.{fork_blocks, node_of, rows_of, tables_of}
 use Rattle.volume_keeper_records.proofs.ImageClear.{formed_none}
 use Rattle.volume_keeper.specs.lemma.Rebuilt.{has_name}
@@ -30,21 +31,21 @@ HasFitForks r = r.dir ≡ true → (r.data_fork ≡ []) × (r.resource_fork ≡ 
 
 pub fit_forks : (r : VolumeRow) → is_formed r ≡ true → HasFitForks r
 fit_forks r e d =
-    let two = formed_none r.dir (is_named r) _ _ r.filed (length r.data_fork == 0) (length r.resource_fork == 0) d e in
+    let two = formed_none r.dir (is_named r) _ _ r.filed (length r.data_fork == 0) (length r.resource_fork == 0) d (right_true (has_fit_privileges r.dir r.privileges) _ e) in
     (nil_from_no_length r.data_fork two.0, nil_from_no_length r.resource_fork two.1)
 
 -- each node has a name
-nodes_named : (v : VolumeState) → IsSoundVolume v → list_all has_name (map (λ n. row.Node n) (map node_of v.rows)) ≡ true
+nodes_named : (v : VolumeState) → IsSoundVolume v → list_all has_name (map (λ n. row.Node n) (map (node_of version) v.rows)) ≡ true
 nodes_named v sound =
-    all-map-where (λ (n : Node). is_none (name_fault n.name)) has_name (λ n. row.Node n) (map node_of v.rows) (λ n e. e)
-    (all-map-where is_formed (λ (n : Node). is_none (name_fault n.name)) node_of v.rows (λ r e. left_true (is_none (name_fault r.name)) _ (left_true (is_named r) _ e)) (rows_formed v sound))
+    all-map-where (λ (n : Node). is_none (name_fault n.name)) has_name (λ n. row.Node n) (map (node_of version) v.rows) (λ n e. e)
+    (all-map-where is_formed (λ (n : Node). is_none (name_fault n.name)) (node_of version) v.rows (λ r e. left_true (is_none (name_fault r.name)) _ (left_true (is_named r) _ (right_true (has_fit_privileges r.dir r.privileges) _ e))) (rows_formed v sound))
 
 others_named : {A : Type 0} (make : A → TableRow) → ((a : A) → has_name (make a) ≡ true) → (xs : List A) → list_all has_name (map make xs) ≡ true
 others_named make named xs = all-map-where (λ x. true) has_name make xs (λ x e. named x) (all-always xs)
 
-pub rows_named : (v : VolumeState) → IsSoundVolume v → list_all has_name (rows_of (tables_of v)) ≡ true
+pub rows_named : (v : VolumeState) → IsSoundVolume v → list_all has_name (rows_of (tables_of version v)) ≡ true
 rows_named v sound =
-    let nodes = map (λ (n : Node). row.Node n) (map node_of v.rows) in
+    let nodes = map (λ (n : Node). row.Node n) (map (node_of version) v.rows) in
     let blocks = map (λ (b : ForkBlock). row.Block b) (flat_map fork_blocks v.rows) in
     let comments = map (λ (c : Comment). row.Comment c) v.comments in
     let icons = map (λ (icon : Icon). row.Icon icon) v.icons in

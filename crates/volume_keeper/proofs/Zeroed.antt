@@ -12,10 +12,11 @@ use Rattle.volume_spec.specs.VolumeState.{Row as VolumeRow, VolumeState, root_id
 use Rattle.volume_spec.specs.Shared.{name_of}
 use Rattle.volume_spec.specs.Order.{rises_from}
 use Rattle.afp_base.specs.Limits.{most_fork_bytes}
-use Rattle.volume_spec.specs.SoundVolume.{IsSoundVolume, is_tree, is_in_place, leads_to_root, has_node, has_apart_names, are_named_alike, has_noted_nodes, keeps_limits, fork_bytes, is_formed_volume, is_formed, is_named, is_in_order, has_rising_ids, most_nodes, last_next_id, file_attributes, dir_attributes}
+use Rattle.volume_spec.specs.SoundVolume.{IsSoundVolume, is_tree, is_in_place, leads_to_root, has_node, has_apart_names, are_named_alike, has_noted_nodes, keeps_limits, fork_bytes, is_formed_volume, is_formed, has_fit_privileges, is_named, is_in_order, has_rising_ids, most_nodes, last_next_id, file_attributes, dir_attributes}
 use Rattle.volume_spec.specs.Walk.{row_at}
 use Rattle.volume_keeper_records.specs.declared.rows.TableRow.{TableRow}
 use Rattle.volume_keeper_records.specs.declared.rows.TableRow.TheVariants as row
+use Rattle.volume_keeper_records.specs.Records.{version}
 use Rattle.volume_keeper_records.specs.Image.{node_of, rows_of, tables_of, fork_blocks}
 use Rattle.volume_tree.specs.Restored.{loaded_row, restored}
 use Rattle.volume_keeper.specs.lemma.Rebuilt.{head_said, nodes_said}
@@ -88,7 +89,7 @@ limits_kept v e =
     ∙ left_true (nat_le (fork_bytes v.rows) most_fork_bytes) _ rest) refl)
 
 row_formed : (r : VolumeRow) → is_formed (zeroed r) ≡ is_formed r
-row_formed r = λ i. is_named r && cond r.dir ((bit_and r.attributes dir_attributes == r.attributes) && ((length-zeros (length r.data_fork) i == 0) && ((length-zeros (length r.resource_fork) i == 0) && not r.filed))) (bit_and r.attributes file_attributes == r.attributes)
+row_formed r = λ i. has_fit_privileges r.dir r.privileges && (is_named r && cond r.dir ((bit_and r.attributes dir_attributes == r.attributes) && ((length-zeros (length r.data_fork) i == 0) && ((length-zeros (length r.resource_fork) i == 0) && not r.filed))) (bit_and r.attributes file_attributes == r.attributes))
 
 formed_kept : (v : VolumeState) → is_formed_volume v ≡ true → is_formed_volume (start v) ≡ true
 unfolding is_formed_volume
@@ -117,13 +118,13 @@ flat-none : {A : Type 0} (make : A → TableRow) → ((a : A) → nodes_said (ma
 flat-none make none [] = refl
 flat-none make none (x ∷ xs) = (λ i. none x i ++ flat-none make none xs i)
 
-flat-nodes : (rows : List VolumeRow) → map loaded_row (flat_map nodes_said (map (λ n. row.Node n) (map node_of rows))) ≡ map zeroed rows
+flat-nodes : (rows : List VolumeRow) → map loaded_row (flat_map nodes_said (map (λ n. row.Node n) (map (node_of version) rows))) ≡ map zeroed rows
 flat-nodes [] = refl
 flat-nodes (r ∷ rows) = ap (λ l. zeroed r ∷ l) (flat-nodes rows)
 
-said : (v : VolumeState) → map loaded_row (flat_map nodes_said (rows_of (tables_of v))) ≡ map zeroed v.rows
+said : (v : VolumeState) → map loaded_row (flat_map nodes_said (rows_of (tables_of version v))) ≡ map zeroed v.rows
 said v =
-    let nodes : List TableRow = map (λ n. row.Node n) (map node_of v.rows) in
+    let nodes : List TableRow = map (λ n. row.Node n) (map (node_of version) v.rows) in
     let blocks : List TableRow = map (λ b. row.Block b) (flat_map fork_blocks v.rows) in
     let comments : List TableRow = map (λ c. row.Comment c) v.comments in
     let icons : List TableRow = map (λ i. row.Icon i) v.icons in
@@ -168,7 +169,7 @@ root_name v s =
     ap (λ o. unwrap_or (option_map (λ (r : VolumeRow). r.name) o) []) (find-map (λ (r : VolumeRow). r.id == root_id) zeroed v.rows)
     ∙ named_root v (find (λ (r : VolumeRow). r.id == root_id) v.rows) (found_both (λ (r : VolumeRow). r.id == root_id) (is_in_place v) v.rows two.1) (some_found (λ (r : VolumeRow). r.id == root_id) v.rows ∙ two.0)
 
-pub restored_is : (v : VolumeState) → IsSoundVolume v → restored (head_said (row.Head (tables_of v).head)) (flat_map nodes_said (rows_of (tables_of v))) ≡ start v
+pub restored_is : (v : VolumeState) → IsSoundVolume v → restored (head_said (row.Head (tables_of version v).head)) (flat_map nodes_said (rows_of (tables_of version v))) ≡ start v
 unfolding restored
 restored_is v s =
     (λ i. record { name = name_of (said v i) root_id; created = v.created; modified = v.modified; backup = v.backup; next_id = v.next_id; rows = said v i; comments = []; icons = []; appls = [] })

@@ -4,8 +4,9 @@ use Rattle.std.specs.FinMap.{entries}
 use Rattle.volume_spec.specs.VolumeState.{VolumeState, fresh_volume}
 use Rattle.record_keeper.specs.declared.record.Record.{Record}
 use Rattle.record_keeper.specs.Records.{Records}
-use Rattle.volume_keeper_records.specs.FirstBad.{first_bad_record}
-use Rattle.volume_keeper_records.specs.Image.{kept_image, records_in}
+use Rattle.volume_keeper_records.specs.FirstBad.{first_bad_record, version_in}
+use Rattle.volume_keeper_records.specs.Image.{IsOld, kept_image, kept_old, records_in}
+use Rattle.volume_keeper_records.specs.Records.{old_version, version}
 use Rattle.volume_keeper.specs.declared.loading.LoadFault.{LoadFault}
 use Rattle.volume_keeper.specs.declared.loading.LoadFault.TheVariants.{BadRecord, Failed, Memory}
 use Rattle.volume_edits.specs.Whole.{VolumeValue}
@@ -24,13 +25,14 @@ IsFaultIn name records (BadRecord key reason) = first_bad_record name records �
 IsFaultIn name records Failed = Unit {0}
 IsFaultIn name records Memory = Unit {0}
 
--- A volume that was loaded: none of the records was bad, and those that are kept now are its image. Where there was none it is a fresh one; else the
--- records are as they were.
+-- A volume that was loaded: none of the records was bad, and those that are kept now are its image. Where there was none it is a fresh one. Where they were
+-- of the older version they were those of the volume, all of whose directories are the guest's; else they are as they were.
 pub record IsLoaded (name : List ℕ) (now : ℕ) (old new : Records) (v : VolumeState) : Type 0 where
   pub good : first_bad_record name (records_in old) ≡ None
   pub image : kept_image v ≡ new
   pub fresh : entries old ≡ [] → v ≡ fresh_volume name now
-  pub same : (entries old ≡ [] → ⊥) → new ≡ old
+  pub same : (entries old ≡ [] → ⊥) → version_in (records_in old) ≡ version → new ≡ old
+  pub migrated : version_in (records_in old) ≡ old_version → IsOld v × (kept_old v ≡ old)
 
 -- what a load does to the records
 abbrev pub IsLoad : List ℕ → ℕ → Result VolumeValue LoadFault → Records → Records → Type 0

@@ -3,29 +3,29 @@ ghost use Rattle.std.specs.Prelude.{◌≡◌, ◌++◌, ◌∷◌, [], None, ma
 ghost use Rattle.afp_names.specs.Name.{name_fault};
 ghost use Rattle.volume_spec.specs.VolumeState.{fresh_volume, new_row, root_id, root_parent};
 ghost use Rattle.record_keeper.specs.declared.record.Change.TheVariants.{Put};
-ghost use Rattle.record_keeper.specs.Records.{TellsOn};
 ghost use Rattle.volume_keeper_records.specs.Image.{node_of, rows_of, tables_of};
-ghost use Rattle.volume_keeper.specs.Loading.{Becomes, HasLoadCause};
-ghost use Rattle.volume_keeper.specs.lemma.Loading.{IsMake, put_of as the_put};
+ghost use Rattle.volume_keeper_records.specs.Migration.{put_of as the_put};
+ghost use Rattle.volume_keeper_records.specs.Records.{version};
+ghost use Rattle.volume_keeper.specs.lemma.Loading.{IsMadeOf};
 
-use crate::loading::LoadFault;
+use crate::made::Made;
 use afp_base::{Bytes, Moment, OutOfMemory};
 use desktop_db::Desktop;
-use record_keeper::{Change, Keeper, KeeperFault, Record};
+use record_keeper::{Change, Record};
 use std::alloc::Global;
 use volume_edits::WholeVolume;
-use volume_keeper_records::laws::records_are_images;
-use volume_keeper_records::{Head, Node, head_record, node_record};
+use volume_keeper_records::{Head, Node, VERSION, guest_privileges, head_record, node_record};
 use volume_spec::laws::{fresh_volumes_are_sound, numbers_stay_in_their_ranges};
 use volume_spec::limits::{FIRST_ID, NEVER, ROOT_ID, ROOT_PARENT_ID};
 use volume_tree::Volume;
 
 /// The head of a volume that is made at a moment.
 fn head_of(now: Moment) -> Head
-    ensures { (name : List ℕ) → result ≡ (tables_of (fresh_volume name now)).head }
+    ensures { (name : List ℕ) → result ≡ (tables_of version (fresh_volume name now)).head }
 {
     let date = now.seconds() as i32;
     Head {
+        version: VERSION,
         created: date,
         modified: date,
         backup: NEVER,
@@ -33,9 +33,9 @@ fn head_of(now: Moment) -> Head
     }
 }
 
-/// The root of a volume that is made at a moment.
+/// The root of a volume that is made at a moment: the guest owns it, and all have all rights.
 fn root_of(alloc: Global, name: &str, now: Moment) -> Result<Node, OutOfMemory>
-    ensures { IfOk result (λ root. root ≡ node_of (new_row true root_id root_parent name.now now)) }
+    ensures { IfOk result (λ root. root ≡ node_of version (new_row true root_id root_parent name.now now)) }
 {
     let date = now.seconds() as i32;
     Ok(Node {
@@ -50,6 +50,7 @@ fn root_of(alloc: Global, name: &str, now: Moment) -> Result<Node, OutOfMemory>
         is_filed: false,
         data_length: 0,
         resource_length: 0,
+        privileges: Some(guest_privileges(true)),
         name: Bytes::of(alloc, name.as_bytes())?,
     })
 }
@@ -65,7 +66,7 @@ fn put(changes: &mut Vec<Change>, kept: Record) -> Result<(), OutOfMemory>
 
 /// The records of a volume that is made at a moment, to be put.
 fn fresh_changes(alloc: Global, name: &str, now: Moment) -> Result<Vec<Change>, OutOfMemory>
-    ensures { IfOk result (λ changes. changes.items ≡ map the_put (rows_of (tables_of (fresh_volume name.now now)))) }
+    ensures { IfOk result (λ changes. changes.items ≡ map the_put (rows_of (tables_of version (fresh_volume name.now now)))) }
 {
     let mut changes = Vec::new(alloc);
     let head = head_of(now);
@@ -90,32 +91,13 @@ fn fresh_whole(alloc: Global, name: &str, now: Moment) -> Result<WholeVolume, Ou
     })
 }
 
-/// Makes a volume at a moment, and has the keeper hold it, by one commit.
-pub(crate) fn make_fresh<K: Keeper>(
-    alloc: Global,
-    keeper: &mut K,
-    name: &str,
-    now: Moment,
-) -> Result<WholeVolume, LoadFault>
+/// A volume that is made at a moment where nothing is kept: all its records are put.
+pub(crate) fn fresh_made(alloc: Global, name: &str, now: Moment) -> Result<Made, OutOfMemory>
     requires { name_fault name.now ≡ None }
-    ensures fresh { IfOk result (λ whole. whole.state ≡ fresh_volume name.now now) }
-    ensures records { Becomes (IsMake name.now now result) (K.records keeper.old) (K.records keeper.new) }
-    ensures cause { HasLoadCause (K.sure keeper.old) (K.faults keeper.old) (K.faults keeper.new) result }
-    ensures told { TellsOn (K.steady keeper.old) (K.faults keeper.old) (K.faults keeper.new) (K.records keeper.old) (K.records keeper.new) }
-    ensures sure { K.sure keeper.new ≡ K.sure keeper.old }
-    ensures steady { K.steady keeper.new ≡ K.steady keeper.old }
+    ensures { IfOk result (λ made. IsMadeOf name.now now [] made.changes.items made.whole.state) }
 {
     fresh_volumes_are_sound();
-    records_are_images();
-    let Ok(whole) = fresh_whole(alloc, name, now) else {
-        return Err(LoadFault::Memory);
-    };
-    let Ok(changes) = fresh_changes(alloc, name, now) else {
-        return Err(LoadFault::Memory);
-    };
-    match keeper.commit(alloc, changes.as_slice()) {
-        Ok(()) => Ok(whole),
-        Err(KeeperFault::Failed) => Err(LoadFault::Failed),
-        Err(KeeperFault::Memory) => Err(LoadFault::Memory),
-    }
+    let changes = fresh_changes(alloc, name, now)?;
+    let whole = fresh_whole(alloc, name, now)?;
+    Ok(Made { whole, changes })
 }

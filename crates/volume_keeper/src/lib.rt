@@ -3,6 +3,8 @@
 
 mod fresh;
 mod loading;
+mod made;
+mod raise;
 mod rebuild;
 
 pub use loading::{LoadFault, load};

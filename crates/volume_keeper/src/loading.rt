@@ -6,12 +6,14 @@ ghost use Rattle.record_keeper.specs.Records.{TellsOn};
 ghost use Rattle.volume_keeper.specs.Loading.{Becomes, HasLoadCause, IsFaultIn, IsLoad};
 ghost use Rattle.volume_keeper.specs.lemma.Loading.{IsMadeOf, IsNotFailed, IsReadFault};
 
-use crate::fresh::make_fresh;
-use crate::rebuild::whole_of;
+use crate::fresh::fresh_made;
+use crate::made::{Made, commit_made};
+use crate::raise::made_of;
 use afp_base::Moment;
 use record_keeper::{Keeper, ReadAllFault, Record, RecordKey, read_all};
 use std::alloc::Global;
 use volume_edits::WholeVolume;
+use volume_keeper_records::laws::{older_records_migrate, records_are_images};
 use volume_keeper_records::{Loaded, Reason, load_records};
 
 /// Why a volume was not loaded.
@@ -26,17 +28,22 @@ pub enum LoadFault {
 }
 
 /// The volume that records say, by rising key.
-fn whole_in(alloc: Global, name: &[u8], records: Vec<Record>) -> Result<WholeVolume, LoadFault>
+fn said_made(
+    alloc: Global,
+    name: &[u8],
+    now: Moment,
+    records: Vec<Record>,
+) -> Result<Made, LoadFault>
     requires order { RisesByKey records.items }
     requires some { records.items ≡ [] → ⊥ }
-    ensures ok { IfOk result (λ whole. IsMadeOf name.now records.items whole.state) }
+    ensures ok { IfOk result (λ made. IsMadeOf name.now now records.items made.changes.items made.whole.state) }
     ensures err { IfErr result (IsFaultIn name.now records.items) }
     ensures failed { IfErr result IsNotFailed }
 {
     let mut records = records;
     match load_records(alloc, name, &mut records) {
-        Ok(Loaded::Good(rows)) => match whole_of(alloc, rows) {
-            Ok(whole) => Ok(whole),
+        Ok(Loaded::Good(rows)) => match made_of(alloc, rows) {
+            Ok(made) => Ok(made),
             Err(_) => Err(LoadFault::Memory),
         },
         Ok(Loaded::Bad(bad)) => Err(LoadFault::BadRecord {
@@ -44,6 +51,24 @@ fn whole_in(alloc: Global, name: &[u8], records: Vec<Record>) -> Result<WholeVol
             reason: bad.reason,
         }),
         Err(_) => Err(LoadFault::Memory),
+    }
+}
+
+/// The volume that records say, by rising key, or where there is none a fresh one, made at that moment.
+fn made_in(alloc: Global, name: &str, now: Moment, records: Vec<Record>) -> Result<Made, LoadFault>
+    requires named { name_fault name.now ≡ None }
+    requires order { RisesByKey records.items }
+    ensures ok { IfOk result (λ made. IsMadeOf name.now now records.items made.changes.items made.whole.state) }
+    ensures err { IfErr result (IsFaultIn name.now records.items) }
+    ensures failed { IfErr result IsNotFailed }
+{
+    if records.is_empty() {
+        match fresh_made(alloc, name, now) {
+            Ok(made) => Ok(made),
+            Err(_) => Err(LoadFault::Memory),
+        }
+    } else {
+        said_made(alloc, name.as_bytes(), now, records)
     }
 }
 
@@ -66,7 +91,8 @@ fn fault_of(fault: ReadAllFault) -> LoadFault
 }
 
 /// The volume of that name that a keeper holds, with its desktop database. Where the keeper holds nothing, a fresh one, made at that moment, which the keeper holds
-/// from then on: it takes one commit. Else it changes nothing.
+/// from then on. Where its records are of the older version, it holds those of the version that is written from then on. Each of these takes one commit, the last
+/// thing that is done: beside an error the keeper holds what it held. Else nothing changes.
 pub fn load<K: Keeper>(
     alloc: Global,
     keeper: &mut K,
@@ -81,14 +107,13 @@ pub fn load<K: Keeper>(
     ensures sure { K.sure keeper.new ≡ K.sure keeper.old }
     ensures steady { K.steady keeper.new ≡ K.steady keeper.old }
 {
+    records_are_images();
+    older_records_migrate();
     match read_all(alloc, keeper) {
-        Ok(records) => {
-            if records.is_empty() {
-                make_fresh(alloc, keeper, name, now)
-            } else {
-                whole_in(alloc, name.as_bytes(), records)
-            }
-        }
+        Ok(records) => match made_in(alloc, name, now, records) {
+            Ok(made) => commit_made(alloc, keeper, made),
+            Err(fault) => Err(fault),
+        },
         Err(fault) => Err(fault_of(fault)),
     }
 }

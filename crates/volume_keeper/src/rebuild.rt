@@ -1,13 +1,14 @@
 //! The volume that rows say.
-ghost use Rattle.std.specs.Prelude.{◌≡◌, ◌<◌, ◌++◌, ◌∷◌, [], List, None, false, flat_map, length, true, IfOk, OnOk};
+ghost use Rattle.std.specs.Prelude.{◌≡◌, ◌<◌, ◌++◌, ◌∷◌, [], List, None, false, flat_map, length, true, unwrap_or, IfOk, OnOk};
 ghost use Rattle.std.specs.List.{list_all};
 ghost use Rattle.afp_names.specs.Name.{name_fault};
 ghost use Rattle.volume_spec.specs.Desktop.{has_no_appl_room, has_no_icon_room};
 ghost use Rattle.volume_spec.specs.SoundVolume.{icon_key as icon_key_of};
-ghost use Rattle.volume_spec.specs.VolumeState.{VolumeState};
+ghost use Rattle.volume_spec.specs.VolumeState.{VolumeState, guest, new_privileges};
 ghost use Rattle.volume_keeper_records.specs.declared.rows.TableRow.{TableRow};
 ghost use Rattle.volume_keeper_records.specs.declared.rows.TableRow.TheVariants as row;
 ghost use Rattle.volume_keeper_records.specs.Image.{rows_of, tables_of};
+ghost use Rattle.volume_keeper_records.specs.Records.{version};
 ghost use Rattle.volume_keeper.specs.lemma.Rebuilt.{FitRows, FitsRow, HasApplRoom, HasIconRoom, HaveRoom, appls_with, comments_with, has_name, head_said, icons_with, nodes_said, with_all, with_block, with_blocks, without_desktop};
 ghost use Rattle.volume_edits.specs.lemma.Whole.{IsWhole};
 
@@ -20,7 +21,9 @@ use node_rows::Node as TreeNode;
 use std::alloc::Global;
 use volume_edits::WholeVolume;
 use volume_keeper_records::laws::{records_are_images, tables_say_volumes};
-use volume_keeper_records::{Appl, Comment, ForkBlock, Icon, Node, TableRow};
+use volume_keeper_records::{
+    Appl, Comment, ForkBlock, Icon, Node, Privileges, TableRow, guest_privileges,
+};
 use volume_spec::desktop_laws::{desktops_keep_volumes_sound, icons_have_their_keys};
 use volume_tree::{LoadedNode, Volume, VolumeHead};
 
@@ -58,11 +61,30 @@ fn head_in(rows: &[TableRow]) -> VolumeHead
     head_of(&rows[0])
 }
 
+/// Owner, group and rights of a node; where none are said, a directory is the guest's.
+fn privileges_of(node: &Node) -> Privileges
+    ensures { result ≡ unwrap_or node.now.privileges (new_privileges node.now.is_directory guest) }
+{
+    match &node.privileges {
+        Some(privileges) => {
+            let rights = privileges.rights;
+            Privileges {
+                owner: privileges.owner,
+                group: privileges.group,
+                rights,
+            }
+        }
+        None => guest_privileges(node.is_directory),
+    }
+}
+
 /// A node with the lengths of its forks.
 fn loaded_of(alloc: Global, node: &Node) -> Result<LoadedNode, OutOfMemory>
     requires { name_fault node.now.name ≡ None }
     ensures { IfOk result (λ loaded. loaded ∷ [] ≡ nodes_said (row.Node node.now)) }
 {
+    let privileges = privileges_of(node);
+    let rights = privileges.rights;
     match Name::new(alloc, node.name.as_slice()) {
         Ok(name) => Ok(LoadedNode {
             node: TreeNode {
@@ -75,6 +97,9 @@ fn loaded_of(alloc: Global, node: &Node) -> Result<LoadedNode, OutOfMemory>
                 backup: node.backup,
                 finder: node.finder,
                 filed: node.is_filed,
+                owner: privileges.owner,
+                group: privileges.group,
+                rights,
                 name,
             },
             data_len: node.data_length,
@@ -224,8 +249,8 @@ fn put_all(desktop: &mut Desktop, rows: &[TableRow]) -> Result<(), OutOfMemory>
 
 /// The tree that rows say.
 fn tree_of(alloc: Global, rows: &[TableRow]) -> Result<Volume, OutOfMemory>
-    requires { (v : VolumeState) × IsWhole v × (rows.now ≡ rows_of (tables_of v)) }
-    ensures { IfOk result (λ volume. (v : VolumeState) → IsWhole v → rows.now ≡ rows_of (tables_of v) → volume.state ≡ without_desktop v) }
+    requires { (v : VolumeState) × IsWhole v × (rows.now ≡ rows_of (tables_of version v)) }
+    ensures { IfOk result (λ volume. (v : VolumeState) → IsWhole v → rows.now ≡ rows_of (tables_of version v) → volume.state ≡ without_desktop v) }
 {
     tables_say_volumes();
     blocks_are_bytes();
@@ -241,10 +266,10 @@ fn tree_of(alloc: Global, rows: &[TableRow]) -> Result<Volume, OutOfMemory>
 
 /// The desktop database that rows say.
 fn desktop_of(alloc: Global, rows: &[TableRow]) -> Result<Desktop, OutOfMemory>
-    requires { (v : VolumeState) × IsWhole v × (rows.now ≡ rows_of (tables_of v)) }
-    ensures comments { IfOk result (λ desktop. (v : VolumeState) → IsWhole v → rows.now ≡ rows_of (tables_of v) → desktop.comments ≡ v.comments) }
-    ensures icons { IfOk result (λ desktop. (v : VolumeState) → IsWhole v → rows.now ≡ rows_of (tables_of v) → desktop.icons ≡ v.icons) }
-    ensures appls { IfOk result (λ desktop. (v : VolumeState) → IsWhole v → rows.now ≡ rows_of (tables_of v) → desktop.appls ≡ v.appls) }
+    requires { (v : VolumeState) × IsWhole v × (rows.now ≡ rows_of (tables_of version v)) }
+    ensures comments { IfOk result (λ desktop. (v : VolumeState) → IsWhole v → rows.now ≡ rows_of (tables_of version v) → desktop.comments ≡ v.comments) }
+    ensures icons { IfOk result (λ desktop. (v : VolumeState) → IsWhole v → rows.now ≡ rows_of (tables_of version v) → desktop.icons ≡ v.icons) }
+    ensures appls { IfOk result (λ desktop. (v : VolumeState) → IsWhole v → rows.now ≡ rows_of (tables_of version v) → desktop.appls ≡ v.appls) }
 {
     desktops_keep_volumes_sound();
     icons_have_their_keys();
@@ -255,8 +280,8 @@ fn desktop_of(alloc: Global, rows: &[TableRow]) -> Result<Desktop, OutOfMemory>
 
 /// The volume that these rows say, with its desktop database. The one error is want of memory.
 pub(crate) fn whole_of(alloc: Global, rows: Vec<TableRow>) -> Result<WholeVolume, OutOfMemory>
-    requires { (v : VolumeState) × IsWhole v × (rows.items ≡ rows_of (tables_of v)) }
-    ensures { IfOk result (λ whole. (v : VolumeState) → IsWhole v → rows.items ≡ rows_of (tables_of v) → whole.state ≡ v) }
+    requires { (v : VolumeState) × IsWhole v × (rows.items ≡ rows_of (tables_of version v)) }
+    ensures { IfOk result (λ whole. (v : VolumeState) → IsWhole v → rows.items ≡ rows_of (tables_of version v) → whole.state ≡ v) }
 {
     let tree = tree_of(alloc, rows.as_slice())?;
     let desktop = desktop_of(alloc, rows.as_slice())?;

@@ -1,5 +1,5 @@
 -- A volume that was loaded.
-use Rattle.std.proofs.Common.{Bool, true, false, ◌≡◌, ◌∙◌, refl, sym, ap, ℕ, List, [], ◌∷◌, length, Option, Some, None}
+use Rattle.std.proofs.Common.{Bool, true, false, ◌≡◌, ◌∙◌, refl, sym, ap, inl, inr, ℕ, List, [], ◌∷◌, length, Option, Some, None}
 use Rattle.std.specs.Prelude.{Ok, IfSome, IsSome}
 use Rattle.std.specs.FinMap as map
 use Rattle.std.specs.Cmp.Lexicographic.{slice_cmp}
@@ -7,7 +7,9 @@ use Rattle.std.specs.Ordering.{nat_cmp}
 use Rattle.volume_spec.specs.VolumeState.{fresh_volume}
 use Rattle.volume_keeper_commit.specs.Loading.{IsLoadedFrom}
 use Rattle.record_keeper.specs.Records.{Records, steady_records}
+use Rattle.volume_keeper_records.specs.Image.{kept_in, records_in}
 use Rattle.volume_keeper.specs.Loading.{Becomes, IsLoad}
+use Rattle.volume_keeper.proofs.Versions.{version_either}
 use Rattle.volume_edits.specs.Whole.{VolumeValue}
 
 none_there : (entries : List (List ℕ × List ℕ)) → length entries ≡ 0 → entries ≡ []
@@ -30,14 +32,18 @@ fresh_where_empty name now whole (Some old) (Some new) becomes told = λ is. bec
 empty_of_none : (kept : Records) → map.entries kept ≡ [] → kept ≡ map.empty
 empty_of_none kept none = map.empty_of_len kept (map.len-entries kept ∙ ap length none)
 
--- and where it held records, they are those of the volume
+-- and where it held records, they are those of the volume in their version
 pub loaded_from : (name : List ℕ) (now : ℕ) (whole : VolumeValue) (old new : Option Records) → Becomes (IsLoad name now (Ok whole)) old new → (IsSome old → IsSome new)
     → IfSome old (λ (kept : Records). IsLoadedFrom name kept whole.state)
 loaded_from name now whole None new becomes told = tt
 loaded_from name now whole (Some old) None becomes told = absurd (told_no_more (told refl))
 loaded_from name now whole (Some old) (Some new) becomes told = record {
   good = becomes.good;
-  image = λ some. becomes.image ∙ becomes.same (λ none. some (empty_of_none old none));
+  image = λ some. elim (version_either (records_in old)) [
+    | inl is ↦ ap (λ (n : ℕ). kept_in n whole.state) is ∙ becomes.image ∙ becomes.same (λ none. some (empty_of_none old none)) is
+    | inr is ↦ ap (λ (n : ℕ). kept_in n whole.state) is ∙ (becomes.migrated is).1
+  ];
+  older = λ is. (becomes.migrated is).0;
 }
 
 -- the same of the records of a keeper that goes on telling them

@@ -6,8 +6,9 @@ use Rattle.volume_spec.specs.TypedVolume.{is_typed_volume}
 use Rattle.volume_spec.specs.VolumeState.{VolumeState, fresh_volume}
 use Rattle.volume_keeper_commit.specs.Kept.{KeptState}
 use Rattle.record_keeper.specs.Records.{Records}
-use Rattle.volume_keeper_records.specs.FirstBad.{first_bad_record}
-use Rattle.volume_keeper_records.specs.Image.{kept_image, records_in}
+use Rattle.volume_keeper_records.specs.FirstBad.{first_bad_record, version_in}
+use Rattle.volume_keeper_records.specs.Image.{IsOld, kept_in, records_in}
+use Rattle.volume_keeper_records.specs.Records.{old_version}
 
 -- A volume that was loaded under a name: it is sound, its numbers are in their ranges, and where the keeper held nothing it is one that nobody has used.
 pub record IsLoadedVolume (name : List ℕ) (now : ℕ) (records : Option Records) (sure : Bool) (faults : ℕ) (kept : KeptState) : Type 0 where
@@ -18,7 +19,9 @@ pub record IsLoadedVolume (name : List ℕ) (now : ℕ) (records : Option Record
   pub sure_is : kept.sure ≡ sure
   pub faults_are : kept.faults ≡ faults
 
--- A volume that was loaded from these records: none of them is bad, and where there are some they are the records of the volume.
+-- A volume that was loaded from these records: none of them is bad, and where there are some they are the records of the volume in their version. Where
+-- that is the older one, all directories are the guest's.
 pub record IsLoadedFrom (name : List ℕ) (held : Records) (v : VolumeState) : Type 0 where
   pub good : first_bad_record name (records_in held) ≡ None
-  pub image : (held ≡ map.empty → ⊥) → kept_image v ≡ held
+  pub image : (held ≡ map.empty → ⊥) → kept_in (version_in (records_in held)) v ≡ held
+  pub older : version_in (records_in held) ≡ old_version → IsOld v

@@ -3,6 +3,7 @@ use Rattle.std.specs.Prelude.{flat_map}
 use Rattle.std.specs.List.{list_all}
 use Rattle.volume_spec.specs.SoundVolume.{IsSoundVolume}
 use Rattle.volume_keeper_records.specs.declared.rows.TableRow.{TableRow}
+use Rattle.volume_keeper_records.specs.Records.{version}
 use Rattle.volume_keeper_records.specs.Image.{rows_of, tables_of}
 use Rattle.volume_tree.specs.Restored.{restored}
 use Rattle.volume_keeper.specs.lemma.Rebuilt.{FitRows, has_name, nodes_said, with_blocks}
@@ -27,7 +28,7 @@ fill_all-requires c =
     let e = c.requires.2 in
     let same = c.in_ok-volume.ensures ∙ (λ i. restored (c.head_in-head.ensures _ _ e i) ((c.in_ok-nodes.ensures ∙ ap (flat_map nodes_said) e) i)) ∙ restored_is v c.requires.1.sound in
     let laws : Laws = record {
-      say = c.tables_say_volumes.ensures;
+      say = c.tables_say_volumes.ensures.tables;
       size = c.blocks_are_bytes.ensures.length;
       back = c.blocks_are_bytes.ensures.back;
       rising = c.blocks_of_bytes_are_kept.ensures.rising;
@@ -38,13 +39,13 @@ fill_all-requires c =
       reaches = c.splice_puts_between.ensures.reaches;
       image = c.records_are_images.ensures.rising;
     } in
-    subst (λ (rows : List TableRow). FitRows rows c.in_ok-volume.volume.state) (sym e) (subst (FitRows (rows_of (tables_of v))) (sym same) (all_fit laws v c.requires.1.sound))
+    subst (λ (rows : List TableRow). FitRows rows c.in_ok-volume.volume.state) (sym e) (subst (FitRows (rows_of (tables_of version v))) (sym same) (all_fit laws v c.requires.1.sound))
 
 pub returns : goal.returns
 returns c = λ v whole e.
     let same = c.in_ok-volume.ensures ∙ (λ i. restored (c.head_in-head.ensures _ _ e i) ((c.in_ok-nodes.ensures ∙ ap (flat_map nodes_said) e) i)) ∙ restored_is v whole.sound in
     let laws : Laws = record {
-      say = c.tables_say_volumes.ensures;
+      say = c.tables_say_volumes.ensures.tables;
       size = c.blocks_are_bytes.ensures.length;
       back = c.blocks_are_bytes.ensures.back;
       rising = c.blocks_of_bytes_are_kept.ensures.rising;
