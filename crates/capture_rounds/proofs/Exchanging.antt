@@ -1,5 +1,5 @@
 -- A call that was written, its reply, and the client.
-use Rattle.std.proofs.Common.{◌≡◌, ◌∙◌, refl, sym, ap, subst, ℕ, ◌<◌, ◌≤◌, ◌^◌, Bool, true, false, List, [], ◌∷◌, ◌++◌, length, take, Option, Some, None, lit<, append-nil}
+use Rattle.std.proofs.Common.{◌≡◌, ◌≢◌, ◌∙◌, refl, sym, ap, subst, ℕ, ◌<◌, ◌≤◌, ◌^◌, Bool, true, false, List, [], ◌∷◌, ◌++◌, length, take, Option, Some, None, lit<, append-nil}
 use Rattle.std.specs.Prelude.{◌+◌, ◌==◌, if◌then◌else◌, unwrap_or}
 use Rattle.std.proofs.lemmas.Bool.{and_from, and_parts, eq-eqb}
 use Rattle.afp_base.specs.declared.code.Code.{Code}
@@ -18,8 +18,10 @@ use Rattle.afp_serial.specs.Answer.{is_legal}
 use Rattle.afp_serial.specs.History.{is_lawful, stand}
 use Rattle.afp_serial.specs.Laws.{FitsFrame}
 use Rattle.afp_serial.specs.Shown.{IsSoundShown, Shown}
+use Rattle.afp_serial.specs.SessionViews.{NeverNoMemory}
 use Rattle.afp_serial.specs.Sound.{IsSound}
 use Rattle.afp_serial.specs.declared.ask.Entry.{Entry}
+use Rattle.afp_serial.specs.declared.ask.Told.TheVariants as told
 use Rattle.afp_serial.proofs.Grows.{take-all}
 use Rattle.dsi_frame.specs.Frame.{Frame, IsGood, command_number}
 use Rattle.dsi_frame.specs.Replies.{code_word, reply_to}
@@ -112,12 +114,12 @@ waiting-taken s w id call c block ready waits is = (replied s w (call_frame id c
 
 -- ---- the reply to a request of an opening is, too
 
-no-data-login : (user : Option (List ℕ × List ℕ)) → canonical_data (login_of user) ≡ None
+pub no-data-login : (user : Option (List ℕ × List ℕ)) → canonical_data (login_of user) ≡ None
 unfolding canonical_data
 no-data-login None = refl
 no-data-login (Some user) = refl
 
-no-data-session : (token : Option (List ℕ)) → canonical_data (session_call token) ≡ None
+pub no-data-session : (token : Option (List ℕ)) → canonical_data (session_call token) ≡ None
 unfolding canonical_data
 no-data-session None = refl
 no-data-session (Some token) = refl
@@ -128,10 +130,10 @@ opening-frame id call c block none =
     ∙ and_from (command_number commands.Command == command_number commands.Command) (id == id) (eq-eqb (command_number commands.Command) (command_number commands.Command) refl) (eq-eqb id id refl)
 
 -- what a request of an opening is told, by three steps
-IsSome : Option Step → Step → Type 0
+pub IsSome : Option Step → Step → Type 0
 IsSome o other = (o ≡ Some (unwrap_or o other)) × (is_taken (unwrap_or o other).event ≡ true)
 
-there : (o : Option Step) (x other : Step) → o ≡ Some x → is_taken x.event ≡ true → IsSome o other
+pub there : (o : Option Step) (x other : Step) → o ≡ Some x → is_taken x.event ≡ true → IsSome o other
 unfolding IsSome
 there o x other is taken = subst (λ (p : Option Step). (p ≡ Some (unwrap_or p other)) × (is_taken (unwrap_or p other).event ≡ true)) (sym is) (refl, taken)
 
@@ -144,7 +146,7 @@ session-refused : (token : Option (List ℕ)) (c : Code) → is_taken (session_r
 session-refused None c = refl
 session-refused (Some token) c = refl
 
-taken-by : (s : ClientState) (at : OpeningStep) (id retries : ℕ) (call : Call) (c : Code) (block : List ℕ) → s.stage ≡ Opening at id retries → opening_command at ≡ commands.Command → canonical_data call ≡ None
+pub taken-by : (s : ClientState) (at : OpeningStep) (id retries : ℕ) (call : Call) (c : Code) (block : List ℕ) → s.stage ≡ Opening at id retries → opening_command at ≡ commands.Command → canonical_data call ≡ None
     → IsSome (opening_replied s at id retries c block) (step s None events.Step)
     → (takes s (Some c) (reply_to (call_frame id call) c block) ≡ Some (opening_does s at id retries c block)) × (is_taken (opening_does s at id retries c block).event ≡ true)
 unfolding IsSome
@@ -159,12 +161,18 @@ taken-by s at id retries call c block stage command none some =
 same-call : (x y : Call) → Some x ≡ Some y → x ≡ y
 same-call x y e = cc
 
+-- the login, whether the client has a token or not
+pub login-taken : (s : ClientState) (id retries : ℕ) (call : Call) (c : Code) (block : List ℕ) → s.stage ≡ Opening steps.Login id retries → canonical_data call ≡ None
+    → (takes s (Some c) (reply_to (call_frame id call) c block) ≡ Some (opening_does s steps.Login id retries c block)) × (is_taken (opening_does s steps.Login id retries c block).event ≡ true)
+login-taken s id retries call c block stage none =
+    taken-by s steps.Login id retries call c block stage refl none
+    (by-three (is_retried c retries) (is_ok c) (writes_opening s steps.Login (id_after id) (retries + 1)) (step (record s { stage = Lost }) None (refusal s.token steps.Login c)) (writes_opening s steps.Session (id_after id) 0)
+    (step s None events.Step) (opening_told s steps.Login id block) refl refl refl refl)
+
 pub opening-taken : OpeningIsTaken
 opening-taken s steps.OpenSession id retries token call c block stage has is = absurd (cc is)
 opening-taken s steps.Login id retries token call c block stage has is =
-    taken-by s steps.Login id retries call c block stage refl (ap canonical_data (sym (same-call (login_call s.login) call is)) ∙ no-data-login s.login.user)
-    (by-three (is_retried c retries) (is_ok c) (writes_opening s steps.Login (id_after id) (retries + 1)) (step (record s { stage = Lost }) None (refusal s.token steps.Login c)) (writes_opening s steps.Session (id_after id) 0)
-    (step s None events.Step) (opening_told s steps.Login id block) refl refl refl refl)
+    login-taken s id retries call c block stage (ap canonical_data (sym (same-call (login_call s.login) call is)) ∙ no-data-login s.login.user)
 opening-taken s steps.Session id retries token call c block stage has is =
     taken-by s steps.Session id retries call c block stage refl (ap canonical_data (sym (same-call (session_call s.token) call is)) ∙ no-data-session s.token)
     (by-three (is_retried c retries) (is_ok c) (writes_opening s steps.Session (id_after id) (retries + 1)) (step (record s { stage = Lost }) None (refusal s.token steps.Session c)) (opened s)
@@ -173,16 +181,18 @@ opening-taken s steps.Session id retries token call c block stage has is =
 -- What a call is told is the client's next step.
 pub record IsNext (now link id : ℕ) (call : Call) (does : Code → List ℕ → Step) (s : ClientState) (line behind : LineState) (bytes : List ℕ) (t u : Shown) : Type 0 where
   pub tells : TellsCall now link id call line [] t behind bytes u
+  pub other : tells.code ≢ code.NoMemory
   pub next : IsNextStep s bytes (reply_to (call_frame id call) tells.code tells.block) tells.code (does tells.code tells.block)
 
-next-told : (fits : FitsFrame) (now link id : ℕ) (call : Call) (does : Code → List ℕ → Step) (s : ClientState) (line behind : LineState) (request bytes : List ℕ) (t u : Shown)
+next-told : (fits : FitsFrame) (never : NeverNoMemory) (now link id : ℕ) (call : Call) (does : Code → List ℕ → Step) (s : ClientState) (line behind : LineState) (request bytes : List ℕ) (t u : Shown)
     → IsSoundShown t → IsSoundShown u → IsAsked now s line request t link id call does → TellsCall now link id call line [] t behind bytes u → IsNext now link id call does s line behind bytes t u
-next-told fits now link id call does s line behind request bytes t u sound later asked tells =
+next-told fits never now link id call does s line behind request bytes t u sound later asked tells =
     let f = call_frame id call in
     let legal = legal-there t u (calls_on link now id call) tells.start tells.history later in
     let size = fits (stand t.start t.history) (calls_on link now id call) tells.code tells.block false (sound-there t sound) legal tells.told in
     record {
       tells = tells;
+      other = λ same. never (stand t.start t.history) (calls_on link now id call) tells.block false (sound-there t sound) legal (tells.told ∙ ap (λ (c : Code). told.Reply c tells.block false) same);
       next = record {
         good = reply-good f tells.code tells.block asked.good size;
         spelt = tells.sent_is;
@@ -194,11 +204,11 @@ next-told fits now link id call does s line behind request bytes t u sound later
     }
 
 -- with what was served where nothing was in `out`
-pub next-served : (fits : FitsFrame) (calls : CallsAreTold) (now link id : ℕ) (call : Call) (does : Code → List ℕ → Step) (s : ClientState) (line behind : LineState) (o : Option LineState) (request first sent bytes : List ℕ) (t u : Shown)
+pub next-served : (fits : FitsFrame) (never : NeverNoMemory) (calls : CallsAreTold) (now link id : ℕ) (call : Call) (does : Code → List ℕ → Step) (s : ClientState) (line behind : LineState) (o : Option LineState) (request first sent bytes : List ℕ) (t u : Shown)
     → IsSoundShown t → IsSoundShown u → IsAsked now s line request t link id call does → first ≡ [] → o ≡ Some behind → bytes ≡ sent → ServesLine now (call_frame id call) line first t o sent u
     → IsNext now link id call does s line behind bytes t u
-next-served fits calls now link id call does s line behind o request first sent bytes t u sound later asked empty there same serves =
-    next-told fits now link id call does s line behind request bytes t u sound later asked
+next-served fits never calls now link id call does s line behind o request first sent bytes t u sound later asked empty there same serves =
+    next-told fits never now link id call does s line behind request bytes t u sound later asked
     (subst (λ (b : List ℕ). TellsCall now link id call line [] t behind b u) (sym same)
     (calls now link id call line behind [] sent t u asked.at
     (subst (λ (l : Option LineState). ServesLine now (call_frame id call) line [] t l sent u) there

@@ -1,6 +1,7 @@
 -- A round: a call that was written goes to the line, and its reply to the client (this profile).
-use Rattle.std.specs.Prelude.{◌≡◌, ℕ, true, false, List, [], ◌++◌, Option, Some, None, unwrap_or}
+use Rattle.std.specs.Prelude.{◌≡◌, ◌≢◌, ℕ, true, false, List, [], ◌++◌, Option, Some, None, unwrap_or}
 use Rattle.afp_base.specs.declared.code.Code.{Code}
+use Rattle.afp_base.specs.declared.code.Code.TheVariants.{NoMemory}
 use Rattle.afp_calls_grammar.specs.declared.call.Call.{Call}
 use Rattle.afp_client.specs.Opening.{login_call, session_call}
 use Rattle.afp_client.specs.State.{ClientState, Waiting, call_frame, is_lost}
@@ -32,10 +33,11 @@ pub record IsAsked (now : ℕ) (s : ClientState) (line : LineState) (request : L
   pub takes_it : (code : Code) (block : List ℕ) → answer (stand t.start t.history) (calls_on link now id call) ≡ tells.Reply code block false → takes s (Some code) (reply_to (call_frame id call) code block) ≡ Some (does code block)
   pub kind : (code : Code) (block : List ℕ) → is_taken (does code block).event ≡ true
 
--- The call was one entry. What it is told came to the client, which did so.
+-- The call was one entry. What it is told, which is never NoMemory, came to the client, which did so.
 pub record IsRound (now link id : ℕ) (call : Call) (does : Code → List ℕ → Step) (line : LineState) (out : List ℕ) (t : Shown) (r : Round) (after : List ℕ) (u : Shown) : Type 0 where
   pub sent : List ℕ
   pub tells : TellsCall now link id call line [] t r.line sent u
+  pub other : tells.code ≢ NoMemory
   pub state : r.caller ≡ (does tells.code tells.block).state
   pub event : r.event ≡ (does tells.code tells.block).event
   pub writes : after ≡ out ++ written (does tells.code tells.block).writes

@@ -1,8 +1,10 @@
 //! The laws. The functions say them, and do nothing.
 ghost use Rattle.capture_rounds.specs.Laws.{CallsAreTold, OpeningsAreTold, OpeningsGoOn};
 ghost use Rattle.capture_rounds.specs.Rounds.{OpeningIsTaken, WaitingIsTaken};
+ghost use Rattle.capture_rounds.specs.Tokens.{TokenIsFound};
 
 use dsi_session::one_way_to_read;
+use once_across_breaks_drill::laws::first_openings_are_told;
 
 /// At a line a call is one entry of the history, and OpenSession is two: a Pulse at link 0, and Open. Each is told the serial answer, in the reply to
 /// its frame. No OpenSession ends its link.
@@ -20,3 +22,10 @@ pub fn replies_are_taken()
     ensures waiting { WaitingIsTaken }
     ensures opening { OpeningIsTaken }
 {}
+
+/// FPGetSessionToken of a first opening is told Ok, and in its block a client finds the token of the session 1.
+pub fn a_token_is_found()
+    ensures { TokenIsFound }
+{
+    first_openings_are_told();
+}

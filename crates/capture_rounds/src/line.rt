@@ -9,7 +9,7 @@ ghost use Rattle.afp_server.specs.Wire.{open_link};
 ghost use Rattle.afp_serial.specs.declared.ask.Told.{Told};
 ghost use Rattle.capture_rounds.specs.lemma.Whole.{FeedsWhole, is_end};
 
-use afp_base::{Bytes, Moment, OutOfMemory};
+use afp_base::{Bytes, LinkNumber, Moment, OutOfMemory};
 use afp_serial::{Ask, House, Teller, Told};
 use afp_server::{Wire, WireEnd};
 use capture_log_server::SoleTeller;
@@ -93,6 +93,13 @@ impl Line {
     {
         let wire = Wire::new(alloc, house, now)?;
         Ok(Line { wire, fed: 0 })
+    }
+
+    /// The number of its link, where a session is open there.
+    pub fn link(&self) -> Option<LinkNumber>
+        ensures { result ≡ open_link self.now.stage }
+    {
+        self.wire.link()
     }
 
     /// A whole request comes: it is handled, and its reply, where it has one, is appended to `out`. The line behind it is told, or none where the

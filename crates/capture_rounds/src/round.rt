@@ -10,7 +10,7 @@ use crate::laws::requests_are_told_in_order;
 use crate::line::Line;
 use afp_base::{Bytes, Moment, OutOfMemory};
 use afp_client::Event;
-use afp_serial::laws::sound_worlds_stay_sound;
+use afp_serial::laws::{faults_are_told_of_this_ask, sound_worlds_stay_sound};
 use capture_log_server::SoleTeller;
 use std::alloc::Global;
 
@@ -39,6 +39,7 @@ pub fn call_round<T: SoleTeller>(
 {
     requests_are_told_in_order();
     sound_worlds_stay_sound();
+    faults_are_told_of_this_ask();
     let mut reply = Bytes::new(alloc);
     match line.serve(request, now, teller, &mut reply)? {
         None => Ok(None),

@@ -46,13 +46,13 @@ answers-append : (w : World) (a b : List Entry) → answers w (a ++ b) ≡ answe
 answers-append w [] b = refl
 answers-append w (e ∷ a) b = ap (λ (l : List Told). answer w e ∷ l) (answers-append (after w e) a b)
 
-opened-append : (w : World) (a b : List Entry) → opened_in w (a ++ b) ≡ opened_in w a + opened_in (stand w a) b
+pub opened-append : (w : World) (a b : List Entry) → opened_in w (a ++ b) ≡ opened_in w a + opened_in (stand w a) b
 opened-append w a b = ap (λ (l : List Told). sum_by (λ t. cond (is_opened t) 1 0) l) (answers-append w a b) ∙ sum_by-append (λ t. cond (is_opened t) 1 0) (answers w a) (answers (stand w a) b)
 
-opened-one : (w : World) (e : Entry) (t : Told) → answer w e ≡ t → is_opened t ≡ false → opened_in w (e ∷ []) ≡ 0
+pub opened-one : (w : World) (e : Entry) (t : Told) → answer w e ≡ t → is_opened t ≡ false → opened_in w (e ∷ []) ≡ 0
 opened-one w e t tells none = ap (λ x. sum_by (λ t. cond (is_opened t) 1 0) (x ∷ [])) tells ∙ sum_by-cons (λ t. cond (is_opened t) 1 0) t [] ∙ ap (λ b. cond b 1 0 + 0) none
 
-back-append : (w : World) (a b : List Entry) → back_in w (a ++ b) ≡ back_in w a + back_in (stand w a) b
+pub back-append : (w : World) (a b : List Entry) → back_in w (a ++ b) ≡ back_in w a + back_in (stand w a) b
 back-append w [] b = omega arith
 back-append w (e ∷ a) b = let rest = back-append (after w e) a b in omega (arith, rest)
 
@@ -83,7 +83,7 @@ kept-call (Write flag reference offset count piece) h = refl
 kept-call (EnumerateExt2 volume dir file_bits dir_bits count start size path) h = refl
 kept-call call h = absurd (cc)
 
-unasked : (b : Bool) → asks_back (cond b AsksKept AsksUnkept) ≡ false
+pub unasked : (b : Bool) → asks_back (cond b AsksKept AsksUnkept) ≡ false
 unasked true = refl
 unasked false = refl
 

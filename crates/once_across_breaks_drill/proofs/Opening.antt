@@ -1,23 +1,20 @@
 -- A client that has opened its first link is alone at its server.
-use Rattle.std.proofs.Common.{◌≡◌, refl, sym, ap, ◌∙◌, subst, ℕ, suc, max, true, false, ◌&&◌, cond, List, [], ◌∷◌, Option, Some, None, arith, lit≤}
-use Rattle.std.specs.Prelude.{drop}
+use Rattle.std.proofs.Common.{◌≡◌, refl, sym, ap, ◌∙◌, subst, ℕ, suc, true, false, ◌&&◌, cond, List, [], ◌∷◌, Option, Some, None}
 use Rattle.std.proofs.lemmas.Bool.{and_from, eq-eqb}
 use Rattle.afp_base.specs.Cached.{Answer, Request}
 use Rattle.afp_calls_grammar.specs.Call.{canonical_call, canonical_data}
-use Rattle.afp_calls_grammar.specs.Commands.{login_command}
 use Rattle.afp_calls_grammar.specs.Laws.{CanonicalIsReadAgain}
-use Rattle.afp_calls_grammar.specs.Spelt.{is_command, spelt_call}
+use Rattle.afp_calls_grammar.specs.Spelt.{spelt_call}
 use Rattle.afp_calls_grammar.specs.declared.call.Call.{Call}
 use Rattle.afp_calls_grammar.specs.declared.call.Call.TheVariants as calls
-use Rattle.afp_replies.specs.declared.reply.Reply.TheVariants.{Empty}
 use Rattle.afp_serial.proofs.RowsSound.{row-sound}
-use Rattle.afp_serial.proofs.Verdicts.{comes-to, runs-of}
-use Rattle.afp_serial.specs.Answer.{Verdict, after, after_at, after_call, after_verdict, is_legal, link_number, new_session, newly_kept, refused, repeats, request, runs, told_verdict, verdict}
+use Rattle.afp_serial.proofs.Verdicts.{comes-to}
+use Rattle.afp_serial.specs.Answer.{Verdict, after, after_at, after_call, after_verdict, is_legal, link_number, newly_kept, refused, repeats, request, runs, told_verdict, verdict}
 use Rattle.afp_serial.specs.History.{entry, stand}
 use Rattle.afp_serial.specs.Household.{Household}
 use Rattle.afp_serial.specs.KeptAnswers.{block_of, enclosed_of, keeping, with_answer}
 use Rattle.afp_serial.specs.KeptLaws.{FindsKept}
-use Rattle.afp_serial.specs.Laws.{ComesToCall, FreshWorldIsSound, KeepsSound, StartsSound}
+use Rattle.afp_serial.specs.Laws.{FreshWorldIsSound, KeepsSound, StartsSound}
 use Rattle.afp_serial.specs.OpenVol.{opens_volume as opens_volume_with, state_named, volume_named}
 use Rattle.afp_serial.specs.Ranges.{is_moment, is_typed_ask, is_typed_entry}
 use Rattle.afp_serial.specs.Rows.{effect, row}
@@ -25,20 +22,20 @@ use Rattle.afp_serial.specs.SessionLaws.{LeavesSessions, SessionsAfter, all_stay
 use Rattle.afp_serial.specs.Sound.{IsSound}
 use Rattle.afp_serial.specs.SweepLaws.{EndsNone}
 use Rattle.afp_serial.specs.Token.{session_token}
-use Rattle.afp_serial.specs.Users.{guest_id}
 use Rattle.afp_serial.specs.World.{Session, World, at_moment, fresh_volumes, fresh_world, with_session}
 use Rattle.afp_serial.specs.declared.ask.Ask.{Ask}
 use Rattle.afp_serial.specs.declared.ask.Ask.TheVariants as ask
 use Rattle.afp_serial.specs.declared.ask.Outcome.TheVariants.{Done}
-use Rattle.afp_serial.specs.declared.attachment.Attachment.TheVariants.{Attached}
 use Rattle.volume_spec.specs.TypedVolume.{is_quad}
 use Rattle.volume_spec.specs.VolumeState.{VolumeState}
 use Rattle.once_across_breaks_drill.proofs.Asking.{after-of}
+use Rattle.once_across_breaks_drill.proofs.Beginning.{token-alone, token-spelt}
+use Rattle.once_across_breaks_drill.proofs.Beginning as begun
 use Rattle.once_across_breaks_drill.proofs.Changing.{alone-held, breaks-change-nothing}
-use Rattle.once_across_breaks_drill.proofs.Rejoining.{login-ask, login-spelt, login-unkept, runs-after, spelt-alone}
+use Rattle.once_across_breaks_drill.proofs.Rejoining.{spelt-alone}
 use Rattle.once_across_breaks_drill.proofs.Rows.{held}
 use Rattle.once_across_breaks_drill.specs.Laws.{BreaksChangeNothing, BreaksChangeNothingBehindOpenings, IsAlone, IsOpening, on_link, opened_world}
-use Rattle.once_across_breaks_drill.specs.Steps.{ask_with, call_ask, calls_on, login, opens, quantum}
+use Rattle.once_across_breaks_drill.specs.Steps.{ask_with, asks_token, call_ask, calls_on, login, opens, quantum}
 
 -- ---- a call that moves no session leaves the client alone
 
@@ -169,53 +166,27 @@ module _ (again : CanonicalIsReadAgain) (leaves : LeavesSessions) (keeps_sound :
   first_world = fresh_world house moment
 
   abbrev new_world : World
-  new_world = record first_world { next_link = 2; sessions = new_session 1 ∷ [] }
+  new_world = begun.new_world house moment
 
   abbrev logged : Session
-  logged = record { number = 1; place = Attached (link_number 1); user = Some guest_id; volumes = []; cache = [] }
+  logged = begun.logged house moment
 
   abbrev logged_world : World
-  logged_world = record first_world { next_link = 2; sessions = logged ∷ [] }
+  logged_world = begun.logged_world house moment
 
-  latest-is : max moment moment ≡ moment
-  latest-is = omega arith
+  swept : after first_world (entry moment (link_number 0) ask.Pulse Done) ≡ first_world
+  swept = begun.swept house moment
 
-  now-is : (x : World) → x.latest ≡ moment → at_moment x moment ≡ x
-  now-is x same = λ i. record x { latest = (ap (λ (n : ℕ). max n moment) same ∙ latest-is ∙ sym same) i }
+  opened : after first_world (entry moment (link_number 0) (ask.Open quantum) Done) ≡ new_world
+  opened = begun.opened house moment
+
+  logged-in : after new_world (calls_on 1 moment 1 login) ≡ logged_world
+  logged-in = begun.logged-in house moment again
 
   legal-by : (w : World) (link : ℕ) (a : Ask) → is_quad link ≡ true → is_typed_ask a ≡ true → is_legal w (entry moment (link_number link) a Done) ≡ true
   unfolding is_typed_entry
   legal-by w link a small typed =
       and_from (is_moment moment && (is_quad link && is_typed_ask a)) true (and_from (is_moment moment) (is_quad link && is_typed_ask a) h.at (and_from (is_quad link) (is_typed_ask a) small typed)) refl
-
-  -- Pulse and Open
-
-  swept : after first_world (entry moment (link_number 0) ask.Pulse Done) ≡ first_world
-  unfolding after_at
-  swept = ap (λ x. after_at x 0 ask.Pulse Done) (now-is first_world refl)
-
-  opened : after first_world (entry moment (link_number 0) (ask.Open quantum) Done) ≡ new_world
-  unfolding after_at
-  opened = ap (λ x. after_at x 0 (ask.Open quantum) Done) (now-is first_world refl)
-
-  -- FPLogin
-
-  abbrev login_request : Request
-  login_request = request 1 false 0 (canonical_call login)
-
-  login-comes : ComesToCall new_world (new_session 1) login_request login
-  unfolding canonical_call row is_command
-  login-comes = record { new = refl; command = login_command; fields = drop 1 (canonical_call login); block = refl; known = refl; user = refl; spelt = login-spelt again; passes = refl }
-
-  login-does : effect new_world (new_session 1) login ≡ record { world = logged_world; reply = Empty }
-  unfolding row
-  login-does = refl
-
-  logged-in : after new_world (calls_on 1 moment 1 login) ≡ logged_world
-  unfolding after_at
-  logged-in =
-      (λ i. after_at (now-is new_world refl i) 1 (login-ask i) Done)
-      ∙ runs-after new_world (new_session 1) login_request login _ (runs-of new_world (new_session 1) login_request login login-comes) login-does login-unkept
 
   login-typed : is_typed_ask (call_ask 1 login) ≡ true
   unfolding canonical_call canonical_data
@@ -233,15 +204,8 @@ module _ (again : CanonicalIsReadAgain) (leaves : LeavesSessions) (keeps_sound :
 
   -- FPGetSessionToken and FPOpenVol
 
-  abbrev asks_token : Call
-  asks_token = calls.GetSessionToken 0 None []
-
   abbrev opens_volume : Call
   opens_volume = calls.OpenVol bits name
-
-  token-alone : canonical_data asks_token ≡ None
-  unfolding canonical_data
-  token-alone = refl
 
   token-typed : is_typed_ask (call_ask 2 asks_token) ≡ true
   unfolding canonical_call canonical_data
@@ -254,17 +218,13 @@ module _ (again : CanonicalIsReadAgain) (leaves : LeavesSessions) (keeps_sound :
   volume-typed : is_typed_ask (call_ask 3 opens_volume) ≡ true
   volume-typed = ap (λ d. is_typed_ask (ask_with 3 opens_volume d)) volume-alone ∙ h.bytes
 
-  token-spelt : spelt_call (canonical_call asks_token) None ≡ Some asks_token
-  token-spelt =
-      spelt-alone again asks_token (tt, (tt, (lit≤ tt, (tt, (tt, (tt, tt)))))) (record { fields = (tt, (tt, ((lit≤ tt, lit≤ tt), (lit≤ tt, (refl, (refl, tt)))))); encloses = tt }) token-alone
-
   pub opening-alone : StaysAlone house (opened_world house moment bits name) logged 1
   opening-alone =
       let to_logged : stand first_world (opens moment bits name) ≡ stand logged_world (calls_on 1 moment 2 asks_token ∷ calls_on 1 moment 3 opens_volume ∷ []) =
       ap (λ x. stand x (entry moment (link_number 0) (ask.Open quantum) Done ∷ calls_on 1 moment 1 login ∷ calls_on 1 moment 2 asks_token ∷ calls_on 1 moment 3 opens_volume ∷ [])) swept
       ∙ ap (λ x. stand x (calls_on 1 moment 1 login ∷ calls_on 1 moment 2 asks_token ∷ calls_on 1 moment 3 opens_volume ∷ [])) opened
       ∙ ap (λ x. stand x (calls_on 1 moment 2 asks_token ∷ calls_on 1 moment 3 opens_volume ∷ [])) logged-in in
-      let token = stays-alone again leaves keeps_sound logged_world logged 1 moment 2 asks_token first-alone token-alone token-spelt refl refl token-house (legal-by logged_world 1 (call_ask 2 asks_token) refl token-typed) in
+      let token = stays-alone again leaves keeps_sound logged_world logged 1 moment 2 asks_token first-alone token-alone (token-spelt again) refl refl token-house (legal-by logged_world 1 (call_ask 2 asks_token) refl token-typed) in
       let v : World = after logged_world (calls_on 1 moment 2 asks_token) in
       let volume = stays-alone again leaves keeps_sound v token.session 1 moment 3 opens_volume token.alone volume-alone (spelt-alone again opens_volume h.bits_typed h.spellable volume-alone) refl refl (volume-house bits name) (legal-by v 1 (call_ask 3 opens_volume) refl volume-typed) in
       record { session = volume.session; number = volume.number ∙ token.number; alone = subst (λ x. IsAlone x volume.session 1) (sym to_logged) volume.alone; house = ap (λ (x : World). x.house) to_logged ∙ volume.house ∙ token.house }

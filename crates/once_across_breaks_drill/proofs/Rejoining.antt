@@ -63,7 +63,7 @@ ends-but w t stays own left =
 pub spelt-alone : CanonicalIsReadAgain → (call : Call) → IsTypedCall call → IsSpellable call → canonical_data call ≡ None → spelt_call (canonical_call call) None ≡ Some call
 spelt-alone again call typed spellable none = ap (spelt_call (canonical_call call)) (sym none) ∙ again call typed spellable
 
-login-alone : canonical_data login ≡ None
+pub login-alone : canonical_data login ≡ None
 unfolding canonical_data
 login-alone = refl
 
@@ -85,7 +85,7 @@ login-unkept = refl
 pub login-ask : call_ask 1 login ≡ ask.Call 1 false 0 (canonical_call login)
 login-ask = ap (ask_with 1 login) login-alone
 
-empty-block : canonical_reply Empty ≡ []
+pub empty-block : canonical_reply Empty ≡ []
 empty-block = refl
 
 token-long : (key : List ℕ) (number : ℕ) → length (session_token key number) ≡ 16
@@ -94,7 +94,7 @@ token-long key number = refl
 
 -- a verdict and what comes of it, where a call runs whose answer is not kept
 
-runs-told : (w : World) (s : Session) (r : Request) (call : Call) (e : Effect) → verdict w s r ≡ runs call → effect w s call ≡ e → told_call w (Some s) r Done ≡ effect_reply call e
+pub runs-told : (w : World) (s : Session) (r : Request) (call : Call) (e : Effect) → verdict w s r ≡ runs call → effect w s call ≡ e → told_call w (Some s) r Done ≡ effect_reply call e
 runs-told w s r call e is does = ap (λ v. told_verdict w s v Done) is ∙ ap (effect_reply call) does
 
 kept-none : (r : Request) (call : Call) (e : Effect) → is_kept_command (block_of r) ≡ false → kept_answer r (effect_reply call e) ≡ None

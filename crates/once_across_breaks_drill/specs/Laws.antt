@@ -1,11 +1,14 @@
 -- The law: breaks change no result (this profile).
 use Rattle.std.specs.Prelude.{◌≡◌, ℕ, suc, ◌+◌, ◌<◌, true, Bool, false, List, [], ◌∷◌, map, Some, None}
 use Rattle.std.specs.List.{AllByRecursion}
+use Rattle.afp_base.specs.declared.code.Code.TheVariants as code
 use Rattle.afp_calls_grammar.specs.Call.{IsSpellable, IsTypedCall, canonical_call}
 use Rattle.afp_calls_grammar.specs.declared.call.Call.{Call}
 use Rattle.afp_calls_grammar.specs.declared.call.Call.TheVariants.{ByteRangeLock, CloseFork, CreateFile, Delete, EnumerateExt2, OpenFork, OpenVol, Rename, Write}
-use Rattle.afp_serial.specs.Answer.{link_number}
-use Rattle.afp_serial.specs.History.{opened_in, stand}
+use Rattle.afp_replies.specs.Replies.{canonical_reply}
+use Rattle.afp_replies.specs.declared.reply.Reply.TheVariants.{Token}
+use Rattle.afp_serial.specs.Answer.{answer, link_number}
+use Rattle.afp_serial.specs.History.{answers, opened_in, stand}
 use Rattle.afp_serial.specs.HouseFault.{house_fault}
 use Rattle.afp_serial.specs.Household.{Household}
 use Rattle.afp_serial.specs.Limits.{links_end}
@@ -14,9 +17,10 @@ use Rattle.afp_serial.specs.Sound.{IsSound}
 use Rattle.afp_serial.specs.Token.{session_token}
 use Rattle.afp_serial.specs.Users.{guest_id}
 use Rattle.afp_serial.specs.World.{Session, World, fresh_world}
+use Rattle.afp_serial.specs.declared.ask.Told.TheVariants as told
 use Rattle.afp_serial.specs.declared.attachment.Attachment.TheVariants.{Attached}
 use Rattle.volume_spec.specs.TypedVolume.{are_bytes}
-use Rattle.once_across_breaks_drill.specs.Steps.{Step, all_asks, back_in, breaks_in, call_ask, opens, results, unbroken}
+use Rattle.once_across_breaks_drill.specs.Steps.{Step, all_asks, asks_token, back_in, begins, breaks_in, call_ask, calls_on, opens, results, unbroken}
 
 -- the calls of the law
 abbrev pub is_of_law : Call → Bool
@@ -91,3 +95,15 @@ BreaksChangeNothingBehindOpenings =
     → AllByRecursion IsStep steps
     → suc (1 + breaks_in steps) < links_end
     → BreaksChangeNothing (opened_world house moment bits name) (session_token house.token_key 1) 1 steps
+
+-- What an opening is told: its link has the number 1, its login is told Ok, and FPGetSessionToken the token of the session 1. In all of it one session is
+-- opened, and none is taken up again.
+pub record TellsFirstOpening (house : Household) (moment bits : ℕ) (name : List ℕ) : Type 0 where
+  pub begun : answers (fresh_world house moment) (begins moment) ≡ told.Live None ∷ told.Opened (link_number 1) ∷ told.Reply code.Ok [] false ∷ []
+  pub token : answer (stand (fresh_world house moment) (begins moment)) (calls_on 1 moment 2 asks_token) ≡ told.Reply code.Ok (canonical_reply (Token (session_token house.token_key 1))) false
+  pub opened : opened_in (fresh_world house moment) (opens moment bits name) ≡ 1
+  pub back : back_in (fresh_world house moment) (opens moment bits name) ≡ 0
+
+-- so it is with each FPOpenVol that can be written
+abbrev pub FirstOpeningsAreTold : Type 0
+FirstOpeningsAreTold = (house : Household) (moment bits : ℕ) (name : List ℕ) → IsTypedCall (OpenVol bits name) → IsSpellable (OpenVol bits name) → TellsFirstOpening house moment bits name

@@ -130,13 +130,24 @@ abbrev pub breaks_in : List Step → ℕ
 breaks_in [] = 0
 breaks_in (s ∷ steps) = is_broken s.breaks + breaks_in steps
 
--- A client opens the first link of a server that nobody has asked, logs in, asks for its session's token, and asks to open a volume. The ids of these
--- calls are 1 to 3.
+-- A client opens the first link of a server that nobody has asked, and logs in.
+abbrev pub begins : ℕ → List Entry
+begins moment =
+    entry moment (link_number 0) ask.Pulse Done
+    ∷ entry moment (link_number 0) (ask.Open quantum) Done
+    ∷ calls_on 1 moment 1 login
+    ∷ []
+
+-- It asks for its session's token.
+abbrev pub asks_token : Call
+asks_token = calls.GetSessionToken 0 None []
+
+-- All of an opening: behind these it asks to open a volume. The ids of its calls are 1 to 3.
 abbrev pub opens : ℕ → ℕ → List ℕ → List Entry
 opens moment bits name =
     entry moment (link_number 0) ask.Pulse Done
     ∷ entry moment (link_number 0) (ask.Open quantum) Done
     ∷ calls_on 1 moment 1 login
-    ∷ calls_on 1 moment 2 (calls.GetSessionToken 0 None [])
+    ∷ calls_on 1 moment 2 asks_token
     ∷ calls_on 1 moment 3 (calls.OpenVol bits name)
     ∷ []

@@ -1,5 +1,5 @@
 //! The law. The function says it, and does nothing.
-ghost use Rattle.once_across_breaks_drill.specs.Laws.{BreaksChangeNoResult, BreaksChangeNothingBehindOpenings};
+ghost use Rattle.once_across_breaks_drill.specs.Laws.{BreaksChangeNoResult, BreaksChangeNothingBehindOpenings, FirstOpeningsAreTold};
 
 use afp_calls_grammar::laws::what_is_written_is_read_again;
 use afp_serial::laws::{
@@ -20,4 +20,12 @@ pub fn breaks_change_no_result()
     last_answers_are_found();
     sessions_that_are_gone_end_one_by_one();
     sound_worlds_stay_sound();
+}
+
+/// A client that opens the first link of a server that nobody has asked has the link 1, is logged in, and is told the token of the session 1.
+/// With its FPOpenVol it opens one session, and takes up none.
+pub fn first_openings_are_told()
+    ensures { FirstOpeningsAreTold }
+{
+    what_is_written_is_read_again();
 }
