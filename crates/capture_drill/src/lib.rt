@@ -1,0 +1,11 @@
+//! Drills: a client whose links break as numbers are drawn, over a server in memory.
+#![tactic(auto)]
+
+mod beginning;
+mod breaking;
+mod counting;
+mod drilling;
+mod house;
+mod stepping;
+
+pub use drilling::{Drilled, drill};
