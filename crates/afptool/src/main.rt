@@ -1,5 +1,5 @@
 //! The tool: from the standard input it carries out scripts of a client, replays captures, checks streams of frames, and reads parcels; it makes
-//! captures, and counts in them.
+//! captures, and counts in them, and in drills over links that break.
 #![tactic(auto)]
 
 use afp_base::{Bytes, NO_LIMIT, OutOfMemory};

@@ -59,6 +59,11 @@ tally_line tallied =
     codes "links " ++ (decimal tallied.links ++ (codes " entries " ++ (decimal tallied.entries ++ (codes " replies " ++ (decimal tallied.replies ++ (codes " refused " ++ (decimal tallied.refused
     ++ (codes " nodes " ++ (decimal tallied.nodes ++ codes "\n")))))))))
 
+-- what is counted in a drill: its steps, how often a link breaks, how many of its calls are told Ok, and how many are not
+abbrev pub drill_line : ℕ → ℕ → ℕ → ℕ → List ℕ
+drill_line commands breaks ok refused =
+    codes "commands " ++ (decimal commands ++ (codes " breaks " ++ (decimal breaks ++ (codes " ok " ++ (decimal ok ++ (codes " refused " ++ (decimal refused ++ codes "\n")))))))
+
 abbrev pub kind_word : Bool → List ℕ
 kind_word true = codes " reply"
 kind_word false = codes " request"

@@ -1,5 +1,5 @@
 -- What a run of the tool prints, and its exit status (this profile).
-use Rattle.std.specs.Prelude.{◌≡◌, ◌≤◌, ◌⊎◌, ℕ, ◌-◌, ◌^◌, ◌==◌, ◌&&◌, nat_le, not, true, List, [], ◌∷◌, length, codes, bytes_eq, if◌then◌else◌, Option, Some, None}
+use Rattle.std.specs.Prelude.{◌≡◌, ◌≤◌, ◌⊎◌, ℕ, ◌-◌, ◌^◌, ◌==◌, ◌&&◌, nat_le, not, true, count_by, List, [], ◌∷◌, length, codes, bytes_eq, if◌then◌else◌, Option, Some, None}
 use Rattle.std.specs.List.{list_all}
 use Rattle.afp_outside.specs.Dialer.{DialerState}
 use Rattle.afp_outside.specs.Link.{LinkState}
@@ -15,14 +15,16 @@ use Rattle.capture_made.specs.declared.making.MakeEnd.{MakeEnd}
 use Rattle.capture_made.specs.declared.making.MakeEnd.TheVariants as make_ends
 use Rattle.capture_made.specs.declared.counting.Tallied.{Tallied}
 use Rattle.capture_made_requests.specs.Requests.{most_steps}
+use Rattle.once_across_breaks_drill.specs.Steps.{breaks_in, is_ok}
+use Rattle.capture_drill_steps.specs.Drilling.{drill_steps, undisturbed}
 use Rattle.afptool_client.specs.Running.{RunsScript}
 use Rattle.afptool_client.specs.Words.{asks_client, client_in}
 use Rattle.afptool_client.specs.declared.words.ClientWords.{ClientWords}
 use Rattle.afptool_lib.specs.Parcelling.{RunsParcel}
-use Rattle.afptool_lib.specs.Lines.{replay_text, replay_status, tally_line}
+use Rattle.afptool_lib.specs.Lines.{drill_line, replay_text, replay_status, tally_line}
 use Rattle.afptool_lib.specs.Telling.{Tells}
 use Rattle.afptool_lib.specs.declared.words.Command.{Command}
-use Rattle.afptool_lib.specs.declared.words.Command.TheVariants.{Replay, Check, Parcel as ParcelWord, Make, Tally}
+use Rattle.afptool_lib.specs.declared.words.Command.TheVariants.{Replay, Check, Parcel as ParcelWord, Make, Tally, Drill}
 
 -- the number that a word spells in decimal, if it is one of at most so much; it may have leading zeros
 abbrev pub number_in : ℕ → List ℕ → Option ℕ
@@ -32,10 +34,12 @@ number_in most word = if not (length word == 0) && list_all is_digit word && nat
 abbrev pub last_number : ℕ
 last_number = 2 ^ 64 - 1
 
--- what a word asks of a made capture
+-- what a word asks of a made capture, or of a drill
 abbrev pub made_of : List ℕ → ℕ → ℕ → Option Command
 made_of word number steps =
-    if bytes_eq word (codes "make") then Some (Make number steps) else if bytes_eq word (codes "tally") then Some (Tally number steps) else None
+    if bytes_eq word (codes "make") then Some (Make number steps)
+    else if bytes_eq word (codes "tally") then Some (Tally number steps)
+    else if bytes_eq word (codes "drill") then Some (Drill number steps) else None
 
 -- the same, where both numbers are spelt
 abbrev pub made_in : List ℕ → Option ℕ → Option ℕ → Option Command
@@ -58,7 +62,7 @@ command_in (word ∷ other ∷ []) = None
 command_in (word ∷ number ∷ steps ∷ []) = made_in word (number_in last_number number) (number_in most_steps steps)
 command_in (word ∷ number ∷ steps ∷ other ∷ words) = None
 
--- a made capture has so many steps at most
+-- a made capture has so many steps at most, and so has a drill
 abbrev pub FitsSteps : Option Command → Type 0
 FitsSteps None = Unit {0}
 FitsSteps (Some Replay) = Unit {0}
@@ -66,6 +70,7 @@ FitsSteps (Some Check) = Unit {0}
 FitsSteps (Some ParcelWord) = Unit {0}
 FitsSteps (Some (Make number steps)) = steps ≤ most_steps
 FitsSteps (Some (Tally number steps)) = steps ≤ most_steps
+FitsSteps (Some (Drill number steps)) = steps ≤ most_steps
 
 -- A capture is replayed: what is printed, and the status, are those of its answer.
 pub record RunsReplay (turns : ℕ) (old new : SourceState) (before after : SinkState) (status : ℕ) : Type 0 where
@@ -94,6 +99,15 @@ pub record TellsTally (number steps : ℕ) (before after : SinkState) (status : 
 abbrev pub RunsTally : ℕ → ℕ → SinkState → SinkState → ℕ → Type 0
 RunsTally number steps before after status = TellsTally number steps before after status ⊎ ((status ≡ 6) × (after ≡ before))
 
+-- What is counted in a drill is printed: its steps, how often a link breaks in them, and how many of their calls are told Ok, and how many are not, where
+-- no link breaks; or there was no memory, and nothing is printed.
+unfoldable pub drill_counts : ℕ → ℕ → List ℕ
+drill_counts number steps =
+    drill_line steps (breaks_in (drill_steps number steps)) (count_by is_ok (undisturbed number steps)) (count_by (λ told. not (is_ok told)) (undisturbed number steps))
+
+abbrev pub RunsDrill : ℕ → ℕ → SinkState → SinkState → ℕ → Type 0
+RunsDrill number steps before after status = Tells (drill_counts number steps) 0 before after status ⊎ ((status ≡ 6) × (after ≡ before))
+
 -- what the tool does with a command that dials nothing, or with words that are none
 abbrev pub RunsPlain : Option Command → ℕ → SourceState → SourceState → SinkState → SinkState → ℕ → Type 0
 RunsPlain None turns old new before after status = (new ≡ old) × Tells bad_words 2 before after status
@@ -102,6 +116,7 @@ RunsPlain (Some Check) turns old new before after status = RunsCheck turns old n
 RunsPlain (Some ParcelWord) turns old new before after status = RunsParcel turns old new before after status
 RunsPlain (Some (Make number steps)) turns old new before after status = (new ≡ old) × RunsMake number steps before after status
 RunsPlain (Some (Tally number steps)) turns old new before after status = (new ≡ old) × RunsTally number steps before after status
+RunsPlain (Some (Drill number steps)) turns old new before after status = (new ≡ old) × RunsDrill number steps before after status
 
 -- A script is carried out by a client that logs in as the words say; or, where they are none of a client's, nothing is dialled.
 abbrev pub RunsBy : {L : Type 0} → (L → LinkState) → Option ClientWords → Option Command → ℕ → DialerState L → DialerState L → SourceState → SourceState → SinkState → SinkState → ℕ → Type 0

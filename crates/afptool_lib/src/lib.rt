@@ -1,7 +1,8 @@
-//! The tool: a client's scripts, captures, streams of frames and parcels.
+//! The tool: a client's scripts, captures, drills, streams of frames and parcels.
 #![tactic(auto)]
 
 mod checking;
+mod drills;
 mod lines;
 mod made;
 mod parcels;

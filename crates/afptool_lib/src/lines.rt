@@ -4,7 +4,7 @@ ghost use Rattle.std.specs.Fmt.{decimal};
 ghost use Rattle.dsi_frame.specs.Frame.{command_number};
 ghost use Rattle.afpd_lib.specs.Reporting.{ReportsAll};
 ghost use Rattle.afptool_lib.specs.Parcelling.{parcel_line, shape_word};
-ghost use Rattle.afptool_lib.specs.Lines.{hex_digit, hex_byte, same_line, got_word, differs_line, bad_line, kind_word, sizes_text, tally_line, frame_line, rest_line, reason_word, bad_frame_line};
+ghost use Rattle.afptool_lib.specs.Lines.{hex_digit, hex_byte, same_line, got_word, differs_line, bad_line, kind_word, sizes_text, tally_line, drill_line, frame_line, rest_line, reason_word, bad_frame_line};
 
 use afp_outside::Sink;
 use afpd_lib::report::{put_before, put_number_before, report_all};
@@ -94,6 +94,42 @@ pub fn report_tally<O: Sink>(out: &mut O, tallied: &Tallied) -> bool
 {
     let mut line = [0; TALLY_LINE];
     let start = put_tally(&mut line, tallied);
+    report_all(out, &line[start..])
+}
+
+/// Puts the last two counts of a drill at the end of the room.
+fn put_results(line: &mut [u8], ok: u32, refused: u32) -> usize
+    requires { length line.old ≡ 128 }
+    ensures start { (74 ≤ result) × (result ≤ 128) }
+    ensures length { length line.new ≡ length line.old }
+    ensures line { drop result line.new ≡ codes " ok " ++ (decimal ok ++ (codes " refused " ++ (decimal refused ++ codes "\n"))) }
+{
+    let end = put_before(line, line.len(), b"\n");
+    let end = put_number_before(line, end, u64::from(refused));
+    let end = put_before(line, end, b" refused ");
+    let end = put_number_before(line, end, u64::from(ok));
+    put_before(line, end, b" ok ")
+}
+
+/// Puts the counts of a drill at the end of the room, and gives the place where they begin.
+fn put_drill(line: &mut [u8], commands: u32, breaks: u32, ok: u32, refused: u32) -> usize
+    requires { length line.old ≡ 128 }
+    ensures start { result ≤ length line.new }
+    ensures line { drop result line.new ≡ drill_line commands breaks ok refused }
+{
+    let end = put_results(line, ok, refused);
+    let end = put_number_before(line, end, u64::from(breaks));
+    let end = put_before(line, end, b" breaks ");
+    let end = put_number_before(line, end, u64::from(commands));
+    put_before(line, end, b"commands ")
+}
+
+/// Prints what is counted in a drill.
+pub fn report_drill<O: Sink>(out: &mut O, commands: u32, breaks: u32, ok: u32, refused: u32) -> bool
+    ensures { ReportsAll (O.sink_state out.old) (drill_line commands breaks ok refused) result (O.sink_state out.new) }
+{
+    let mut line = [0; LINE];
+    let start = put_drill(&mut line, commands, breaks, ok, refused);
     report_all(out, &line[start..])
 }
 

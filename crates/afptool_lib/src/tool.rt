@@ -7,6 +7,7 @@ ghost use Rattle.afptool_lib.specs.Telling.{Tells};
 ghost use Rattle.afptool_lib.specs.Tool.{RunsPlain, RunsTool, command_in};
 
 use crate::checking::run_check;
+use crate::drills::run_drill;
 use crate::made::{run_make, run_tally};
 use crate::parcels::run_parcel;
 use crate::replays::run_replay;
@@ -48,6 +49,7 @@ fn run_plain<K: Keeper, S: Source, O: Sink>(
         Some(Command::Parcel) => run_parcel(alloc, source, out, turns),
         Some(Command::Make { number, steps }) => run_make(alloc, fresh, number, steps, out),
         Some(Command::Tally { number, steps }) => run_tally(alloc, fresh, number, steps, out),
+        Some(Command::Drill { number, steps }) => run_drill(alloc, fresh, number, steps, out),
         None => refuse(out),
     }
 }
@@ -61,8 +63,8 @@ fn run_plain<K: Keeper, S: Source, O: Sink>(
 /// status 1, or `bad line N` with status 3. `check` prints a line for each frame of a stream of the Data Stream Interface, and
 /// then `rest N`, with status 0 where N is 0 and else 3, or `bad at A REASON` with status 3. `parcel` reads an AppleSingle or AppleDouble file, and
 /// prints `single data N resource M` or `double data N resource M`, or `bad parcel` with status 3. `make N K` prints the capture of a number
-/// N below 2^64 and K steps, at most 100,000; `tally N K` prints what is counted in it. Both read nothing. All but `client` dial nothing. The
-/// status is 2 for other words, with the line `bad words`; 4 where a read failed; 5 where a write failed; 6 for want of memory; and 8 where it
+/// N below 2^64 and K steps, at most 100,000; `tally N K` prints what is counted in it, and `drill N K` what is counted where a client makes the
+/// steps of that drill over links that break. These three read nothing. All but `client` dial nothing. The status is 2 for other words, with the line `bad words`; 4 where a read failed; 5 where a write failed; 6 for want of memory; and 8 where it
 /// would read or dial again and `turns` is reached. Of `client` it is 1 where an opening was refused, 3 for a bad line, 7 where links broke or
 /// none was dialled, 9 where the session was lost, and 10 for a bad reply.
 pub fn afptool<K: Keeper, S: Source, O: Sink, D: Dialer>(

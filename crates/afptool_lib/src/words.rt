@@ -20,6 +20,8 @@ pub enum Command {
     Make { number: u64, steps: u32 },
     /// Count in that capture.
     Tally { number: u64, steps: u32 },
+    /// Count in the drill of a number and so many steps.
+    Drill { number: u64, steps: u32 },
 }
 
 /// What one word asks.
@@ -93,7 +95,7 @@ fn steps_in(word: &[u8]) -> Option<u32>
     }
 }
 
-/// What a word asks of the capture of a number and so many steps.
+/// What a word asks of the capture of a number and so many steps, or of the drill.
 fn made_of(word: &[u8], number: u64, steps: u32) -> Option<Command>
     requires { steps ≤ most_steps }
     ensures command { result ≡ made_of word.now number steps }
@@ -104,6 +106,9 @@ fn made_of(word: &[u8], number: u64, steps: u32) -> Option<Command>
     }
     if word == b"tally".as_slice() {
         return Some(Command::Tally { number, steps });
+    }
+    if word == b"drill".as_slice() {
+        return Some(Command::Drill { number, steps });
     }
     None
 }
