@@ -156,16 +156,16 @@ impl<S: Alter + Drop> Keeper for DurableKeeper<S> {
         }
     }
 
-    fn commit(&mut self, _alloc: Global, changes: &[Change]) -> Result<(), KeeperFault>
-        ensures ok { OnOk result (Makes (changed changes.now) (told_of S.Store self.old) (told_of S.Store self.new)) }
+    fn commit(&mut self, _alloc: Global, changes: Vec<Change>) -> Result<(), KeeperFault>
+        ensures ok { OnOk result (Makes (changed changes.items) (told_of S.Store self.old) (told_of S.Store self.new)) }
         ensures err { OnErr result (Makes same_records (told_of S.Store self.old) (told_of S.Store self.new)) }
         ensures cause { HasCause false self.old.faults self.new.faults result }
         ensures one { IsErrOf result KeeperFault.Failed → self.new.faults ≡ self.old.faults + 1 }
         ensures settles { self.new.settles ≡ self.old.settles }
-        ensures crash { LeavesChanged S.Store (changed changes.now) self.old self.new }
+        ensures crash { LeavesChanged S.Store (changed changes.items) self.old self.new }
     {
         self.ahead = None;
-        match writing::make_all(&mut self.connection, changes) {
+        match writing::make_all(&mut self.connection, changes.as_slice()) {
             Ok(()) => Ok(()),
             Err(error) => Err(counted(&mut self.faults, error)),
         }

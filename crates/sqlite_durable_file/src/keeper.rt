@@ -96,7 +96,7 @@ impl Keeper for FileKeeper {
         self.inner.next_key(alloc, after)
     }
 
-    fn commit(&mut self, alloc: Global, changes: &[Change]) -> Result<(), KeeperFault> {
+    fn commit(&mut self, alloc: Global, changes: Vec<Change>) -> Result<(), KeeperFault> {
         self.inner.commit(alloc, changes)
     }
 

@@ -94,8 +94,8 @@ impl<S: Alter + Drop> Keeper for SqliteKeeper<S> {
         }
     }
 
-    fn commit(&mut self, _alloc: Global, changes: &[Change]) -> Result<(), KeeperFault> {
-        match statements::make_all(&mut self.connection, changes) {
+    fn commit(&mut self, _alloc: Global, changes: Vec<Change>) -> Result<(), KeeperFault> {
+        match statements::make_all(&mut self.connection, changes.as_slice()) {
             Ok(()) => Ok(()),
             Err(error) => Err(counted(&mut self.faults, error)),
         }
