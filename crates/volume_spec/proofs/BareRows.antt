@@ -15,8 +15,9 @@ use Rattle.volume_spec.specs.Edits.{bare, is_taken, is_below, with_changed, chan
 use Rattle.volume_spec.specs.Listing.{children, listed, row_key}
 use Rattle.volume_spec.specs.Order.{in_order}
 use Rattle.volume_spec.specs.VolumeState.{Row, root_parent}
-use Rattle.volume_spec.specs.Walk.{row_at, parent_at, child_by_key, child_by_long_name, child, or_else, onward, failed_down, walk_from, not_above_root, walk, found}
+use Rattle.volume_spec.specs.Walk.{row_at, parent_at, child_by_key, child_by_long_name, child, or_else, onward, failed_down, unless_closed, walk_from, not_above_root, walk, found}
 use Rattle.afp_base.proofs.ListFacts.{all-always, any-map, any-same}
+use Rattle.volume_spec.specs.Rights.{has_right, is_closed, is_owner, lacks, search_right}
 
 pub find-map : {A B : Type 0} (f : A → B) (p : B → Bool) (xs : List A) → find p (map f xs) ≡ option_map f (find (λ x. p (f x)) xs)
 find-map f p [] = refl
@@ -56,23 +57,37 @@ unfolding child
 child-bare rows kind dir name =
     λ i. or_else (keys-bare rows dir (name_key name) i) (cond (kind == long_names) (long-names-bare rows dir (element_of kind name) i) None)
 
+-- what a user may do is the same
+pub closed-bare : (rows : List Row) (user here : ℕ) → is_closed (map bare rows) user here ≡ is_closed rows user here
+unfolding is_closed
+closed-bare rows user here = any-map (λ row. (row.id == here) && (row.dir && not (has_right user search_right row.privileges))) bare rows
+
+pub lacks-bare : (rows : List Row) (user right id : ℕ) → lacks (map bare rows) user right id ≡ lacks rows user right id
+unfolding lacks
+lacks-bare rows user right id = ap not (any-map (λ row. (row.id == id) && has_right user right row.privileges) bare rows)
+
+pub owner-bare : (rows : List Row) (user id : ℕ) → is_owner (map bare rows) user id ≡ is_owner rows user id
+unfolding is_owner
+owner-bare rows user id = any-map (λ row. (row.id == id) && (row.privileges.owner == user)) bare rows
+
 onward-same : (o : Option ℕ) (code : Code) (f g : ℕ → Result ℕ Code) → ((n : ℕ) → f n ≡ g n) → onward o code f ≡ onward o code g
 onward-same None code f g same = refl
 onward-same (Some n) code f g same = same n
 
-steps-bare : (rows : List Row) (kind : ℕ) (missing : Code) (steps : List Step) (here : ℕ) → walk_from (map bare rows) kind missing steps here ≡ walk_from rows kind missing steps here
-steps-bare rows kind missing [] here = refl
-steps-bare rows kind missing (Up ∷ steps) here =
-    ap (λ o. onward o ObjectNotFound (walk_from (map bare rows) kind missing steps)) (parents-bare rows here)
-    ∙ onward-same (parent_at rows here) ObjectNotFound (walk_from (map bare rows) kind missing steps) (walk_from rows kind missing steps) (steps-bare rows kind missing steps)
-steps-bare rows kind missing (Down name ∷ steps) here =
-    ap (λ o. onward o (failed_down missing steps) (walk_from (map bare rows) kind missing steps)) (child-bare rows kind here name)
-    ∙ onward-same (child rows kind here name) (failed_down missing steps) (walk_from (map bare rows) kind missing steps) (walk_from rows kind missing steps) (steps-bare rows kind missing steps)
+steps-bare : (rows : List Row) (user kind : ℕ) (missing : Code) (steps : List Step) (here : ℕ) → walk_from (map bare rows) user kind missing steps here ≡ walk_from rows user kind missing steps here
+steps-bare rows user kind missing [] here = refl
+steps-bare rows user kind missing (Up ∷ steps) here =
+    ap (λ o. onward o ObjectNotFound (walk_from (map bare rows) user kind missing steps)) (parents-bare rows here)
+    ∙ onward-same (parent_at rows here) ObjectNotFound (walk_from (map bare rows) user kind missing steps) (walk_from rows user kind missing steps) (steps-bare rows user kind missing steps)
+steps-bare rows user kind missing (Down name ∷ steps) here =
+    let on = ap (λ o. onward o (failed_down missing steps) (walk_from (map bare rows) user kind missing steps)) (child-bare rows kind here name)
+    ∙ onward-same (child rows kind here name) (failed_down missing steps) (walk_from (map bare rows) user kind missing steps) (walk_from rows user kind missing steps) (steps-bare rows user kind missing steps) in
+    λ i. unless_closed (closed-bare rows user here i) (on i)
 
-pub walks-bare : (rows : List Row) (dir : ℕ) (path : PathValue) → found (map bare rows) dir path ≡ found rows dir path
+pub walks-bare : (rows : List Row) (user dir : ℕ) (path : PathValue) → found (map bare rows) user dir path ≡ found rows user dir path
 unfolding walk
-walks-bare rows dir path =
-    λ i. cond (cond (dir == root_parent) true (any-map (λ row. (row.id == dir) && row.dir) bare rows i)) (not_above_root (steps-bare rows path.kind ObjectNotFound path.steps dir i)) (Err DirNotFound)
+walks-bare rows user dir path =
+    λ i. cond (cond (dir == root_parent) true (any-map (λ row. (row.id == dir) && row.dir) bare rows i)) (not_above_root (steps-bare rows user path.kind ObjectNotFound path.steps dir i)) (Err DirNotFound)
 
 pub taken-bare : (rows : List Row) (node dir : ℕ) (name : List ℕ) → is_taken (map bare rows) node dir name ≡ is_taken rows node dir name
 unfolding is_taken

@@ -17,7 +17,7 @@ use Rattle.volume_spec.specs.Edit.{Edit, Comes, Goes, Renames, Moves, Sets, File
 use Rattle.volume_spec.specs.EditLaws.{MayEdit, MayEditAll, MayCome, MayMove, MayRename, MayWrite, MayExchange}
 use Rattle.volume_spec.specs.Edits.{change_at, put, with_changed, exchanged_at, filed_as}
 use Rattle.volume_spec.specs.ForkEffect.{fork_effect, written}
-use Rattle.volume_spec.specs.SetFileDirParms.{Settings, has_sized_finder, with_settings}
+use Rattle.volume_spec.specs.SetFileDirParms.{Settings, are_fit_settings, with_settings}
 use Rattle.volume_spec.specs.SoundVolume.{dir_attributes, file_attributes, fork_bytes, has_file, has_node, is_formed, is_named, is_tree, has_apart_names, has_noted_nodes, keeps_limits, is_formed_volume, is_in_order, IsSoundVolume, has_fit_privileges}
 use Rattle.volume_spec.specs.VolumeState.{Appl, Icon, Row, VolumeState}
 use Rattle.volume_spec.specs.Walk.{row_at}
@@ -84,9 +84,9 @@ go-sound : (v : VolumeState) (id : ℕ) → MayEdit v (Goes id) → IsSoundVolum
 unfolding edited
 go-sound v id m s = sound-without v id m.other m.childless s
 
-set-sound : (v : VolumeState) (id : ℕ) (settings : Settings) → has_sized_finder settings ≡ true → IsSoundVolume v → IsSoundVolume (edited v (Sets id settings))
+set-sound : (v : VolumeState) (id : ℕ) (settings : Settings) → are_fit_settings settings ≡ true → IsSoundVolume v → IsSoundVolume (edited v (Sets id settings))
 unfolding edited
-set-sound v id settings sized s = sound-at v id (with_settings settings) (settings-keep settings sized) s
+set-sound v id settings fit s = sound-at v id (with_settings settings) (settings-keep settings fit) s
 
 icon-sound : (v : VolumeState) (icon : Icon) → MayEdit v (PutsIcon icon) → IsSoundVolume v → IsSoundVolume (edited v (PutsIcon icon))
 unfolding edited

@@ -47,14 +47,18 @@ set-parts : (s : Settings) → is_typed_settings s ≡ true → TypedSettings s
 set-parts s h =
     let a = and_parts (unwrap_or (option_map is_date s.created) true) _ h in
     let b = and_parts (unwrap_or (option_map is_date s.modified) true) _ a.1 in
-    let c = and_parts (unwrap_or (option_map is_date s.backup) true) (unwrap_or (option_map are_bytes s.finder) true) b.1 in
-    record { created = a.0; modified = b.0; backup = c.0; finder = c.1 }
+    let c = and_parts (unwrap_or (option_map is_date s.backup) true) _ b.1 in
+    let d = and_parts (unwrap_or (option_map are_bytes s.finder) true) _ c.1 in
+    let e = and_parts (unwrap_or (option_map is_long s.owner) true) (unwrap_or (option_map is_long s.group) true) d.1 in
+    record { created = a.0; modified = b.0; backup = c.0; finder = d.0; owner = e.0; group = e.1 }
 
 pub set-whole : (s : Settings) → TypedSettings s → is_typed_settings s ≡ true
 set-whole s t =
     and_from (unwrap_or (option_map is_date s.created) true) _ t.created
     (and_from (unwrap_or (option_map is_date s.modified) true) _ t.modified
-    (and_from (unwrap_or (option_map is_date s.backup) true) (unwrap_or (option_map are_bytes s.finder) true) t.backup t.finder))
+    (and_from (unwrap_or (option_map is_date s.backup) true) _ t.backup
+    (and_from (unwrap_or (option_map are_bytes s.finder) true) _ t.finder
+    (and_from (unwrap_or (option_map is_long s.owner) true) (unwrap_or (option_map is_long s.group) true) t.owner t.group))))
 
 filed-typed : (filed : Bool) → KeepsTyped (filed_as filed)
 filed-typed filed row h =

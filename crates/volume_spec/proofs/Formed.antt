@@ -58,13 +58,13 @@ formed-whole v p =
     (and_from (are_apart are_one_appl v.appls) _ p.one_appl p.appls))))))
 
 -- a new node of a name is formed
-pub new-formed : (dir : Bool) (id parent : ℕ) (name : List ℕ) (now : ℕ) → name_fault name ≡ None → is_formed (new_row dir id parent name now) ≡ true
-new-formed dir id parent name now good = go dir
+pub new-formed : (dir : Bool) (user id parent : ℕ) (name : List ℕ) (now : ℕ) → name_fault name ≡ None → is_formed (new_row dir user id parent name now) ≡ true
+new-formed dir user id parent name now good = go dir
   where
     named : (is_none (name_fault name) && true) ≡ true
     named = ap (λ o. is_none o && true) good
 
-    go : (dir : Bool) → is_formed (new_row dir id parent name now) ≡ true
+    go : (dir : Bool) → is_formed (new_row dir user id parent name now) ≡ true
     go true = and_from (is_none (name_fault name) && true) true named refl
     go false = and_from (is_none (name_fault name) && true) true named refl
 

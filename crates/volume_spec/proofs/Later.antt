@@ -14,10 +14,10 @@ use Rattle.volume_spec.specs.VolumeCalls.{call_edits}
 use Rattle.volume_spec.specs.VolumeState.{VolumeState}
 
 step-later : (v : VolumeState) (step : TreeStep) → IsLater v (after_step v step)
-step-later v step = by (tree_refusal v step.opens step.call)
+step-later v step = by (tree_refusal v step.user step.opens step.call)
   where
-    by : (o : Option Code) → IsLater v (unless_refused o v (tree_effect v step.now step.call))
-    by None = subst (IsLater v) (effects-are v step.now step.call) (call-later v step.now (call_edits v step.now (volume_call step.call)))
+    by : (o : Option Code) → IsLater v (unless_refused o v (tree_effect v step.user step.now step.call))
+    by None = subst (IsLater v) (effects-are v step.user step.now step.call) (call-later v step.now (call_edits v step.user step.now (volume_call step.call)))
     by (Some code) = same-later v
 
 pub steps-later : (v : VolumeState) (steps : List TreeStep) → IsLater v (after_steps v steps)
@@ -33,15 +33,15 @@ never-again v steps id drawn gone = by (has_node (after_steps v steps).rows id) 
 
 -- soundness over calls
 
-pub effect-sound : (v : VolumeState) (step : TreeStep) → is_named_call step.call ≡ true → tree_refusal v step.opens step.call ≡ None → IsSoundVolume v → IsSoundVolume (tree_effect v step.now step.call)
+pub effect-sound : (v : VolumeState) (step : TreeStep) → is_named_call step.call ≡ true → tree_refusal v step.user step.opens step.call ≡ None → IsSoundVolume v → IsSoundVolume (tree_effect v step.user step.now step.call)
 effect-sound v step named passes s =
-    subst IsSoundVolume (effects-are v step.now step.call)
-    (call-sound v step.now (call_edits v step.now (volume_call step.call)) (tree-may v step.opens step.now step.call named passes s) s)
+    subst IsSoundVolume (effects-are v step.user step.now step.call)
+    (call-sound v step.now (call_edits v step.user step.now (volume_call step.call)) (tree-may v step.user step.opens step.now step.call named passes s) s)
 
 pub step-sound : (v : VolumeState) (step : TreeStep) → is_named_call step.call ≡ true → IsSoundVolume v → IsSoundVolume (after_step v step)
-step-sound v step named s = by (tree_refusal v step.opens step.call) refl
+step-sound v step named s = by (tree_refusal v step.user step.opens step.call) refl
   where
-    by : (o : Option Code) → tree_refusal v step.opens step.call ≡ o → IsSoundVolume (unless_refused o v (tree_effect v step.now step.call))
+    by : (o : Option Code) → tree_refusal v step.user step.opens step.call ≡ o → IsSoundVolume (unless_refused o v (tree_effect v step.user step.now step.call))
     by None passes = effect-sound v step named passes s
     by (Some code) refused = s
 

@@ -14,6 +14,7 @@ pub mod Listings
 pub mod ListReplies
 pub mod ToldValues
 pub mod Worked
+pub mod Owned
 pub mod ToldIsSet
 pub mod ByIndex
 pub mod Later

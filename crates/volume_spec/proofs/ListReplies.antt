@@ -8,7 +8,7 @@ use Rattle.std.proofs.lemmas.List.Sums.{sum_by-cons, sum_by-take-le}
 use Rattle.std.proofs.Math.Seq.{take-add, take-length}
 use Rattle.afp_base.specs.Limits.{payload_limit}
 use Rattle.afp_base.specs.declared.code.Code.{Code}
-use Rattle.afp_base.specs.declared.code.Code.TheVariants.{BitmapErr, ObjectTypeErr, ObjectNotFound, ParamErr}
+use Rattle.afp_base.specs.declared.code.Code.TheVariants.{AccessDenied, BitmapErr, ObjectTypeErr, ObjectNotFound, ParamErr}
 use Rattle.afp_bitmap.specs.Bits.{file_mask, dir_mask, is_outside}
 use Rattle.afp_names.specs.Path.{PathValue}
 use Rattle.volume_spec.proofs.Listings.{count-once, lists-by-key}
@@ -25,6 +25,7 @@ use Rattle.volume_spec.specs.VolumeState.{Row, VolumeState}
 use Rattle.volume_spec.specs.Walk.{found, has_directory}
 use Rattle.afp_base.proofs.ListFacts.{apart-filter}
 use Rattle.volume_spec.proofs.Rising.{keys-filter}
+use Rattle.volume_spec.specs.Rights.{lacks, read_right}
 
 -- what is counted
 
@@ -188,24 +189,25 @@ entries-go-as-far rows opens asked dir n few there passes stops =
 behind-ok : {A : Type 0} (r : Result A Code) (refused : A → Option Code) (a : A) → behind r refused ≡ None → r ≡ Ok a → refused a ≡ None
 behind-ok r refused a h is = ap (λ q. behind q refused) (sym is) ∙ h
 
-one-there : (v : VolumeState) (opens : List Opened) (asked : ListAsked) (dir id : ℕ) (path : PathValue) → enumerate_refusal v opens asked dir path ≡ None → found v.rows dir path ≡ Ok id → 0 < length (entries v.rows opens asked id)
+one-there : (v : VolumeState) (opens : List Opened) (asked : ListAsked) (dir id : ℕ) (path : PathValue) → enumerate_refusal v opens asked dir path ≡ None → found v.rows asked.user dir path ≡ Ok id → 0 < length (entries v.rows opens asked id)
 unfolding enumerate_refusal entries
 one-there v opens asked dir id path passes is =
     let first = none-first ((is_outside file_mask asked.file_bits, BitmapErr) ∷ (is_outside dir_mask asked.dir_bits, BitmapErr) ∷ ((asked.file_bits == 0) && (asked.dir_bits == 0), BitmapErr) ∷ []) _ passes in
     let none = none-holds (
     (not (has_directory v.rows id), ObjectTypeErr)
+    ∷ (lacks v.rows asked.user read_right id, AccessDenied)
     ∷ (asked.count == 0, ParamErr)
     ∷ (asked.start == 0, ParamErr)
     ∷ (nat_lt (length (counted_children v.rows asked id)) asked.start, ObjectNotFound)
     ∷ (not (fits_reply v.rows opens asked (take 1 (from_start v.rows asked id))), ParamErr)
-    ∷ []) (behind-ok (found v.rows dir path) _ id first.1 is) in
+    ∷ []) (behind-ok (found v.rows asked.user dir path) _ id first.1 is) in
     let list : List Row = counted_children v.rows asked id in
-    let there : asked.start ≤ length list = ltb-false (length list) asked.start none.1.1.1.0 in
+    let there : asked.start ≤ length list = ltb-false (length list) asked.start none.1.1.1.1.0 in
     let size : length (from_start v.rows asked id) ≡ length list - (asked.start - 1) = length-drop (asked.start - 1) list in
     front-most (fits_reply v.rows opens asked) asked.count 1 (from_start v.rows asked id)
-    (some asked.count (eqb-false asked.count 0 none.1.0))
-    (subst (λ n. 1 ≤ n) (sym size) (left asked.start (length list) (eqb-false asked.start 0 none.1.1.0) there))
-    (not-false (fits_reply v.rows opens asked (take 1 (from_start v.rows asked id))) none.1.1.1.1.0)
+    (some asked.count (eqb-false asked.count 0 none.1.1.0))
+    (subst (λ n. 1 ≤ n) (sym size) (left asked.start (length list) (eqb-false asked.start 0 none.1.1.1.0) there))
+    (not-false (fits_reply v.rows opens asked (take 1 (from_start v.rows asked id))) none.1.1.1.1.1.0)
   where
     some : (n : ℕ) → (n ≡ 0 → ⊥) → 1 ≤ n
     some n h = omega arith
@@ -213,7 +215,7 @@ one-there v opens asked dir id path passes is =
     left : (start n : ℕ) → (start ≡ 0 → ⊥) → start ≤ n → 1 ≤ n - (start - 1)
     left start n h there = omega arith
 
-pub entries-fit : (v : VolumeState) (opens : List Opened) (asked : ListAsked) (dir id : ℕ) (path : PathValue) → enumerate_refusal v opens asked dir path ≡ None → found v.rows dir path ≡ Ok id → fits_reply v.rows opens asked (entries v.rows opens asked id) ≡ true
+pub entries-fit : (v : VolumeState) (opens : List Opened) (asked : ListAsked) (dir id : ℕ) (path : PathValue) → enumerate_refusal v opens asked dir path ≡ None → found v.rows asked.user dir path ≡ Ok id → fits_reply v.rows opens asked (entries v.rows opens asked id) ≡ true
 unfolding entries
 entries-fit v opens asked dir id path passes is =
     front-passes (fits_reply v.rows opens asked) asked.count (from_start v.rows asked id) (one-there v opens asked dir id path passes is)
@@ -222,17 +224,17 @@ behind-err : {A : Type 0} (r : Result A Code) (refused : A → Option Code) (cod
 behind-err (Ok a) refused code h is = absurd (cc)
 behind-err (Err stray) refused code h is = absurd (cc)
 
-finds : (v : VolumeState) (opens : List Opened) (asked : ListAsked) (dir : ℕ) (path : PathValue) (code : Code) → enumerate_refusal v opens asked dir path ≡ None → found v.rows dir path ≡ Err code → ⊥
+finds : (v : VolumeState) (opens : List Opened) (asked : ListAsked) (dir : ℕ) (path : PathValue) (code : Code) → enumerate_refusal v opens asked dir path ≡ None → found v.rows asked.user dir path ≡ Err code → ⊥
 unfolding enumerate_refusal
 finds v opens asked dir path code passes is =
     let first = none-first ((is_outside file_mask asked.file_bits, BitmapErr) ∷ (is_outside dir_mask asked.dir_bits, BitmapErr) ∷ ((asked.file_bits == 0) && (asked.dir_bits == 0), BitmapErr) ∷ []) _ passes in
-    behind-err (found v.rows dir path) _ code first.1 is
+    behind-err (found v.rows asked.user dir path) _ code first.1 is
 
 pub never-empty : (v : VolumeState) (opens : List Opened) (asked : ListAsked) (dir : ℕ) (path : PathValue) → enumerate_refusal v opens asked dir path ≡ None
-    → (id : ℕ) × (found v.rows dir path ≡ Ok id) × (0 < length (entries v.rows opens asked id))
-never-empty v opens asked dir path passes = by (found v.rows dir path) refl
+    → (id : ℕ) × (found v.rows asked.user dir path ≡ Ok id) × (0 < length (entries v.rows opens asked id))
+never-empty v opens asked dir path passes = by (found v.rows asked.user dir path) refl
   where
-    by : (r : Result ℕ Code) → found v.rows dir path ≡ r → (id : ℕ) × (found v.rows dir path ≡ Ok id) × (0 < length (entries v.rows opens asked id))
+    by : (r : Result ℕ Code) → found v.rows asked.user dir path ≡ r → (id : ℕ) × (found v.rows asked.user dir path ≡ Ok id) × (0 < length (entries v.rows opens asked id))
     by (Ok id) is = (id, is, one-there v opens asked dir id path passes is)
     by (Err code) is = absurd (finds v opens asked dir path code passes is)
 

@@ -8,7 +8,7 @@ use Rattle.afp_names.specs.Name.{name_key}
 use Rattle.afp_names.specs.Path.{PathValue}
 use Rattle.volume_spec.proofs.EffectEdits.{effects-are}
 use Rattle.volume_spec.proofs.NewCalls.{exchange-may}
-use Rattle.volume_spec.proofs.Refusals.{none-holds, at-each, at-found}
+use Rattle.volume_spec.proofs.Refusals.{none-first, none-holds, at-each, at-found}
 use Rattle.volume_spec.specs.Comments.{does_comment}
 use Rattle.volume_spec.specs.CreateFile.{create_file_there, create_file_refusal}
 use Rattle.volume_spec.specs.Delete.{delete_refusal}
@@ -17,7 +17,7 @@ use Rattle.volume_spec.specs.EditLaws.{LetsFilesBe, LetFilesBe, MayEditAll, MayE
 use Rattle.volume_spec.specs.Edits.{at_place, change_at, has_children, named, put, with_changed, with_forks_of, with_row, without, without_node, exchanged_at, filed_as}
 use Rattle.volume_spec.specs.ForkEffect.{written}
 use Rattle.volume_spec.specs.SetFileDirParms.{with_settings}
-use Rattle.volume_spec.specs.Shared.{Opened, delete_inhibit, has_attribute, has_no_ids, is_busy, name_of}
+use Rattle.volume_spec.specs.Shared.{Opened, delete_inhibit, has_attribute, has_no_ids, is_busy, name_of, lacks_above}
 use Rattle.volume_spec.specs.SoundVolume.{has_file, IsSoundVolume}
 use Rattle.volume_spec.specs.TreeSteps as tree
 use Rattle.volume_spec.specs.TreeSteps.{TreeCall, TreeStep, tree_refusal, tree_effect}
@@ -27,6 +27,7 @@ use Rattle.volume_spec.specs.VolumeCalls.{VolumeCall, CreateDir, CreateFile, Del
 use Rattle.volume_spec.specs.VolumeState.{Row, VolumeState, root_id}
 use Rattle.volume_spec.specs.Walk.{Place, child_by_key, found, has_directory, new_place, one_down, one_down_or, row_at}
 use Rattle.afp_base.proofs.ListFacts.{any-longer, any-map, any-still, any-weaker, find-passes}
+use Rattle.volume_spec.specs.Rights.{lacks, write_right}
 
 -- this file stays
 abbrev pub LetsBe : ℕ → VolumeState → VolumeState → Type 0
@@ -110,37 +111,37 @@ edits-of-call-let-be v opens now (e ∷ es) id l busy h = edits-let-be v opens (
 
 -- the edits of calls
 
-create-file-lets : (v : VolumeState) (opens : List Opened) (hard : Bool) (now dir : ℕ) (path : PathValue) → create_file_refusal v opens hard dir path ≡ None → LetFilesBe v opens (call_edits v now (CreateFile hard dir path))
+create-file-lets : (v : VolumeState) (user : ℕ) (opens : List Opened) (hard : Bool) (now dir : ℕ) (path : PathValue) → create_file_refusal v user opens hard dir path ≡ None → LetFilesBe v opens (call_edits v user now (CreateFile hard dir path))
 unfolding create_file_refusal call_edits
-create-file-lets v opens hard now dir path passes =
-    at-found (LetFilesBe v opens) (new_place v.rows dir path) _ [] _ passes (λ place is clear. by-old place (child_by_key v.rows place.dir (name_key place.name)) clear)
+create-file-lets v user opens hard now dir path passes =
+    at-found (LetFilesBe v opens) (new_place v.rows user dir path) _ [] _ passes (λ place is clear. by-old place (child_by_key v.rows place.dir (name_key place.name)) (none-first ((lacks v.rows user write_right place.dir, AccessDenied) ∷ []) _ clear).1)
   where
-    by-old : (place : Place) (o : Option ℕ) → create_file_there v opens hard o ≡ None → LetFilesBe v opens (replaces o ++ creates false now v place)
+    by-old : (place : Place) (o : Option ℕ) → create_file_there v opens hard o ≡ None → LetFilesBe v opens (replaces o ++ creates false user now v place)
     by-old place None clear = (tt, (tt, tt))
     by-old place (Some old) clear =
         let none = none-holds ((has_directory v.rows old, ObjectTypeErr) ∷ (not hard, ObjectExists) ∷ (is_busy opens old, FileBusy) ∷ (has_attribute v.rows delete_inhibit old, ObjectLocked) ∷ (has_no_ids v, DiskFull) ∷ []) clear in
         (none.1.1.0, (tt, (tt, tt)))
 
-delete-lets : (v : VolumeState) (opens : List Opened) (now dir : ℕ) (path : PathValue) → delete_refusal v opens dir path ≡ None → LetFilesBe v opens (call_edits v now (Delete dir path))
+delete-lets : (v : VolumeState) (user : ℕ) (opens : List Opened) (now dir : ℕ) (path : PathValue) → delete_refusal v user opens dir path ≡ None → LetFilesBe v opens (call_edits v user now (Delete dir path))
 unfolding delete_refusal call_edits
-delete-lets v opens now dir path passes =
-    at-found (LetFilesBe v opens) (found v.rows dir path) _ [] _ passes (λ gone is clear.
-    let none = none-holds ((gone == root_id, AccessDenied) ∷ (has_attribute v.rows delete_inhibit gone, ObjectLocked) ∷ (is_busy opens gone, FileBusy) ∷ (has_children v.rows gone, DirNotEmpty) ∷ []) clear in
-    (none.1.1.0, (tt, tt)))
+delete-lets v user opens now dir path passes =
+    at-found (LetFilesBe v opens) (found v.rows user dir path) _ [] _ passes (λ gone is clear.
+    let none = none-holds ((gone == root_id, AccessDenied) ∷ (lacks_above v.rows user write_right gone, AccessDenied) ∷ (has_attribute v.rows delete_inhibit gone, ObjectLocked) ∷ (is_busy opens gone, FileBusy) ∷ (has_children v.rows gone, DirNotEmpty) ∷ []) clear in
+    (none.1.1.1.0, (tt, tt)))
 
-tree-lets : (v : VolumeState) (opens : List Opened) (now : ℕ) (call : TreeCall) → tree_refusal v opens call ≡ None → LetFilesBe v opens (call_edits v now (volume_call call))
+tree-lets : (v : VolumeState) (user : ℕ) (opens : List Opened) (now : ℕ) (call : TreeCall) → tree_refusal v user opens call ≡ None → LetFilesBe v opens (call_edits v user now (volume_call call))
 unfolding call_edits
-tree-lets v opens now (tree.CreateDir dir path) passes = at-each (LetFilesBe v opens) (new_place v.rows dir path) [] _ tt (λ place is. (tt, (tt, tt)))
-tree-lets v opens now (tree.CreateFile hard dir path) passes = create-file-lets v opens hard now dir path passes
-tree-lets v opens now (tree.Delete dir path) passes = delete-lets v opens now dir path passes
-tree-lets v opens now (tree.Rename dir path new) passes = at-each (LetFilesBe v opens) (found v.rows dir path) [] _ tt (λ id is. at-each (LetFilesBe v opens) (one_down new.steps) [] _ tt (λ name down. (tt, (tt, tt))))
-tree-lets v opens now (tree.MoveAndRename dir path to_dir to_path new) passes =
-    at-each (LetFilesBe v opens) (found v.rows dir path) [] _ tt (λ id is. at-each (LetFilesBe v opens) (found v.rows to_dir to_path) [] _ tt (λ target to.
+tree-lets v user opens now (tree.CreateDir dir path) passes = at-each (LetFilesBe v opens) (new_place v.rows user dir path) [] _ tt (λ place is. (tt, (tt, tt)))
+tree-lets v user opens now (tree.CreateFile hard dir path) passes = create-file-lets v user opens hard now dir path passes
+tree-lets v user opens now (tree.Delete dir path) passes = delete-lets v user opens now dir path passes
+tree-lets v user opens now (tree.Rename dir path new) passes = at-each (LetFilesBe v opens) (found v.rows user dir path) [] _ tt (λ id is. at-each (LetFilesBe v opens) (one_down new.steps) [] _ tt (λ name down. (tt, (tt, tt))))
+tree-lets v user opens now (tree.MoveAndRename dir path to_dir to_path new) passes =
+    at-each (LetFilesBe v opens) (found v.rows user dir path) [] _ tt (λ id is. at-each (LetFilesBe v opens) (found v.rows user to_dir to_path) [] _ tt (λ target to.
     at-each (LetFilesBe v opens) (one_down_or (name_of v.rows id) new.steps) [] _ tt (λ name down. (tt, (tt, (tt, tt))))))
-tree-lets v opens now (tree.SetFileParms dir bits path tail) passes = at-each (LetFilesBe v opens) (found v.rows dir path) [] _ tt (λ id is. (tt, tt))
-tree-lets v opens now (tree.SetDirParms dir bits path tail) passes = at-each (LetFilesBe v opens) (found v.rows dir path) [] _ tt (λ id is. (tt, tt))
-tree-lets v opens now (tree.SetFileDirParms dir bits path tail) passes = at-each (LetFilesBe v opens) (found v.rows dir path) [] _ tt (λ id is. (tt, tt))
-tree-lets v opens now (tree.SetVolParms bits tail) passes = (tt, tt)
+tree-lets v user opens now (tree.SetFileParms dir bits path tail) passes = at-each (LetFilesBe v opens) (found v.rows user dir path) [] _ tt (λ id is. (tt, tt))
+tree-lets v user opens now (tree.SetDirParms dir bits path tail) passes = at-each (LetFilesBe v opens) (found v.rows user dir path) [] _ tt (λ id is. (tt, tt))
+tree-lets v user opens now (tree.SetFileDirParms dir bits path tail) passes = at-each (LetFilesBe v opens) (found v.rows user dir path) [] _ tt (λ id is. (tt, tt))
+tree-lets v user opens now (tree.SetVolParms bits tail) passes = (tt, tt)
 
 -- two files that may change their forks
 exchange-lets : (v : VolumeState) (opens : List Opened) (one two : Result ℕ Code) → MayEditAll v (edits_at one (λ a. edits_at two (λ b. Exchanges a b ∷ []))) → LetFilesBe v opens (edits_at one (λ a. edits_at two (λ b. Exchanges a b ∷ [])))
@@ -148,35 +149,35 @@ exchange-lets v opens (Ok a) (Ok b) m = (m.0, tt)
 exchange-lets v opens (Ok a) (Err code) m = tt
 exchange-lets v opens (Err code) two m = tt
 
-pub calls-let : (v : VolumeState) (opens : List Opened) (now : ℕ) (call : VolumeCall) → volume_refusal v opens call ≡ None → IsSoundVolume v → LetFilesBe v opens (call_edits v now call)
+pub calls-let : (v : VolumeState) (user : ℕ) (opens : List Opened) (now : ℕ) (call : VolumeCall) → volume_refusal v user opens call ≡ None → IsSoundVolume v → LetFilesBe v opens (call_edits v user now call)
 unfolding call_edits
-calls-let v opens now (CreateDir dir path) passes s = tree-lets v opens now (tree.CreateDir dir path) passes
-calls-let v opens now (CreateFile hard dir path) passes s = tree-lets v opens now (tree.CreateFile hard dir path) passes
-calls-let v opens now (Delete dir path) passes s = tree-lets v opens now (tree.Delete dir path) passes
-calls-let v opens now (Rename dir path new) passes s = tree-lets v opens now (tree.Rename dir path new) passes
-calls-let v opens now (MoveAndRename dir path to_dir to_path new) passes s = tree-lets v opens now (tree.MoveAndRename dir path to_dir to_path new) passes
-calls-let v opens now (SetFileParms dir bits path tail) passes s = tree-lets v opens now (tree.SetFileParms dir bits path tail) passes
-calls-let v opens now (SetDirParms dir bits path tail) passes s = tree-lets v opens now (tree.SetDirParms dir bits path tail) passes
-calls-let v opens now (SetFileDirParms dir bits path tail) passes s = tree-lets v opens now (tree.SetFileDirParms dir bits path tail) passes
-calls-let v opens now (SetVolParms bits tail) passes s = (tt, tt)
-calls-let v opens now (CopyFile source dir path new) passes s = at-each (LetFilesBe v opens) (found v.rows dir path) [] _ tt (λ target is. at-each (LetFilesBe v opens) (one_down_or source.file.name new.steps) [] _ tt (λ name down. (tt, (tt, tt))))
-calls-let v opens now (ExchangeFiles dir path second_dir second_path) passes s = exchange-lets v opens (found v.rows dir path) (found v.rows second_dir second_path) (exchange-may v now dir path second_dir second_path passes s)
-calls-let v opens now (CreateID dir path) passes s = at-each (LetFilesBe v opens) (found v.rows dir path) [] _ tt (λ id is. (tt, tt))
-calls-let v opens now (DeleteID id) passes s = (tt, tt)
-calls-let v opens now (AddIcon icon) passes s = (tt, tt)
-calls-let v opens now (AddAPPL dir creator tag path) passes s = at-each (LetFilesBe v opens) (found v.rows dir path) [] _ tt (λ id is. (tt, tt))
-calls-let v opens now (RemoveAPPL dir creator path) passes s = at-each (LetFilesBe v opens) (found v.rows dir path) [] _ tt (λ id is. (tt, tt))
-calls-let v opens now (AddComment dir path text) passes s = at-each (LetFilesBe v opens) (found v.rows dir path) [] _ tt (λ id is. by id (does_comment v id text))
+calls-let v user opens now (CreateDir dir path) passes s = tree-lets v user opens now (tree.CreateDir dir path) passes
+calls-let v user opens now (CreateFile hard dir path) passes s = tree-lets v user opens now (tree.CreateFile hard dir path) passes
+calls-let v user opens now (Delete dir path) passes s = tree-lets v user opens now (tree.Delete dir path) passes
+calls-let v user opens now (Rename dir path new) passes s = tree-lets v user opens now (tree.Rename dir path new) passes
+calls-let v user opens now (MoveAndRename dir path to_dir to_path new) passes s = tree-lets v user opens now (tree.MoveAndRename dir path to_dir to_path new) passes
+calls-let v user opens now (SetFileParms dir bits path tail) passes s = tree-lets v user opens now (tree.SetFileParms dir bits path tail) passes
+calls-let v user opens now (SetDirParms dir bits path tail) passes s = tree-lets v user opens now (tree.SetDirParms dir bits path tail) passes
+calls-let v user opens now (SetFileDirParms dir bits path tail) passes s = tree-lets v user opens now (tree.SetFileDirParms dir bits path tail) passes
+calls-let v user opens now (SetVolParms bits tail) passes s = (tt, tt)
+calls-let v user opens now (CopyFile source dir path new) passes s = at-each (LetFilesBe v opens) (found v.rows user dir path) [] _ tt (λ target is. at-each (LetFilesBe v opens) (one_down_or source.file.name new.steps) [] _ tt (λ name down. (tt, (tt, tt))))
+calls-let v user opens now (ExchangeFiles dir path second_dir second_path) passes s = exchange-lets v opens (found v.rows user dir path) (found v.rows user second_dir second_path) (exchange-may v user now dir path second_dir second_path passes s)
+calls-let v user opens now (CreateID dir path) passes s = at-each (LetFilesBe v opens) (found v.rows user dir path) [] _ tt (λ id is. (tt, tt))
+calls-let v user opens now (DeleteID id) passes s = (tt, tt)
+calls-let v user opens now (AddIcon icon) passes s = (tt, tt)
+calls-let v user opens now (AddAPPL dir creator tag path) passes s = at-each (LetFilesBe v opens) (found v.rows user dir path) [] _ tt (λ id is. (tt, tt))
+calls-let v user opens now (RemoveAPPL dir creator path) passes s = at-each (LetFilesBe v opens) (found v.rows user dir path) [] _ tt (λ id is. (tt, tt))
+calls-let v user opens now (AddComment dir path text) passes s = at-each (LetFilesBe v opens) (found v.rows user dir path) [] _ tt (λ id is. by id (does_comment v id text))
   where
     by : (id : ℕ) (b : Bool) → LetFilesBe v opens (cond b (Comments id text ∷ []) [])
     by id true = (tt, tt)
     by id false = tt
-calls-let v opens now (RemoveComment dir path) passes s = at-each (LetFilesBe v opens) (found v.rows dir path) [] _ tt (λ id is. (tt, tt))
+calls-let v user opens now (RemoveComment dir path) passes s = at-each (LetFilesBe v opens) (found v.rows user dir path) [] _ tt (λ id is. (tt, tt))
 
-pub call-lets-be : (v : VolumeState) (step : TreeStep) (id : ℕ) → tree_refusal v step.opens step.call ≡ None → is_busy step.opens id ≡ true → LetsBe id v (tree_effect v step.now step.call)
+pub call-lets-be : (v : VolumeState) (step : TreeStep) (id : ℕ) → tree_refusal v step.user step.opens step.call ≡ None → is_busy step.opens id ≡ true → LetsBe id v (tree_effect v step.user step.now step.call)
 call-lets-be v step id passes busy =
-    subst (LetsBe id v) (effects-are v step.now step.call)
-    (edits-of-call-let-be v step.opens step.now (call_edits v step.now (volume_call step.call)) id (tree-lets v step.opens step.now step.call passes) busy)
+    subst (LetsBe id v) (effects-are v step.user step.now step.call)
+    (edits-of-call-let-be v step.opens step.now (call_edits v step.user step.now (volume_call step.call)) id (tree-lets v step.user step.opens step.now step.call passes) busy)
 
 -- the name of the volume
 
@@ -209,5 +210,5 @@ pub edits-of-call-named : (v : VolumeState) (now : ℕ) (edits : List Edit) → 
 edits-of-call-named v now [] = refl
 edits-of-call-named v now (e ∷ es) = edits-named v (e ∷ es)
 
-pub call-named : (v : VolumeState) (step : TreeStep) → (tree_effect v step.now step.call).name ≡ v.name
-call-named v step = ap (λ (w : VolumeState). w.name) (sym (effects-are v step.now step.call)) ∙ edits-of-call-named v step.now (call_edits v step.now (volume_call step.call))
+pub call-named : (v : VolumeState) (step : TreeStep) → (tree_effect v step.user step.now step.call).name ≡ v.name
+call-named v step = ap (λ (w : VolumeState). w.name) (sym (effects-are v step.user step.now step.call)) ∙ edits-of-call-named v step.now (call_edits v step.user step.now (volume_call step.call))

@@ -76,9 +76,9 @@ pub record IsPlaceThere (rows : List Row) (place : Place) : Type 0 where
   pub directory : has_directory rows place.dir ≡ true
   pub named : name_fault place.name ≡ None
 
-pub place-there : (rows : List Row) (dir : ℕ) (path : PathValue) (place : Place) → is_named_path path ≡ true → new_place rows dir path ≡ Ok place → IsPlaceThere rows place
+pub place-there : (rows : List Row) (user dir : ℕ) (path : PathValue) (place : Place) → is_named_path path ≡ true → new_place rows user dir path ≡ Ok place → IsPlaceThere rows place
 unfolding new_place
-place-there rows dir path place named h = by-split (before_down path.steps) (λ split. split-named path.steps split named) h
+place-there rows user dir path place named h = by-split (before_down path.steps) (λ split. split-named path.steps split named) h
   where
     in-dir : (name : List ℕ) (r : Result ℕ Code) → name_fault name ≡ None → named_in rows name r ≡ Ok place → IsPlaceThere rows place
     in-dir name (Err code) good h = absurd (cc)
@@ -87,9 +87,9 @@ place-there rows dir path place named h = by-split (before_down path.steps) (λ 
         (λ there h. let one : record { dir = d; name = name } ≡ place = cc in record { directory = ap (λ (p : Place). has_directory rows p.dir) (sym one) ∙ there; named = ap (λ (p : Place). name_fault p.name) (sym one) ∙ good })
         (λ no h. absurd (cc)) h
 
-    by-split : (o : Option (List Step × List ℕ)) → ((s : List Step × List ℕ) → o ≡ Some s → name_fault s.1 ≡ None) → place_behind rows path.kind dir o ≡ Ok place → IsPlaceThere rows place
+    by-split : (o : Option (List Step × List ℕ)) → ((s : List Step × List ℕ) → o ≡ Some s → name_fault s.1 ≡ None) → place_behind rows user path.kind dir o ≡ Ok place → IsPlaceThere rows place
     by-split None good h = absurd (cc)
-    by-split (Some s) good h = in-dir s.1 (walk rows path.kind DirNotFound dir s.0) (good s refl) h
+    by-split (Some s) good h = in-dir s.1 (walk rows user path.kind DirNotFound dir s.0) (good s refl) h
 
 -- a new name is a name
 pub down-named : (steps : List Step) (name : List ℕ) → list_all is_named_step steps ≡ true → one_down steps ≡ Ok name → name_fault name ≡ None

@@ -1,10 +1,10 @@
 -- A set call takes what FPGetFileDirParms tells.
 use Rattle.std.proofs.Common.{◌==◌, ◌≡◌, ◌∙◌, ap, sym, refl, ℕ, ◌+◌, ◌≤◌, ◌<◌, ◌^◌, min, arith, ℤ, Bool, true, false, not, ◌||◌, cond, List, [], ◌∷◌, ◌++◌, length, take, drop, map, Some, None, FitsSigned, add-zero}
-use Rattle.std.specs.Prelude.{bit_and, option_map, flat_map}
+use Rattle.std.specs.Prelude.{bit_and, option_map, flat_map, nat_lt}
 use Rattle.std.specs.Int.{bit_at, w32, cast_signed, cast_unsigned}
 use Rattle.std.specs.List.{concat, filter, list_all}
 use Rattle.std.proofs.Math.Seq.{drop-append_seam, take-append_seam}
-use Rattle.std.proofs.lemmas.Bool.{and_parts, and_from, cond_both, cond-true, eqb-true, le-ltb, not-false}
+use Rattle.std.proofs.lemmas.Bool.{and_parts, and_from, cond_both, cond-true, eqb-true, le-ltb, not-false, both_ways}
 use Rattle.std.proofs.lemmas.List.{append-nil, append_assoc, length-append}
 use Rattle.std.proofs.lemmas.Nat.Bits.{bit_at_and}
 use Rattle.byteorder.specs.Endian.{big_bytes, big_number}
@@ -17,7 +17,7 @@ use Rattle.afp_bitmap.specs.declared.file.FileValues.{FileValues}
 use Rattle.afp_bitmap.specs.declared.directory.DirValues.{DirValues}
 use Rattle.afp_bitmap.specs.declared.params.Values.TheVariants.{File, Dir}
 use Rattle.volume_spec.specs.Parms.{date_in}
-use Rattle.volume_spec.specs.SetFileDirParms.{set_fields, asked_bytes, is_short_tail, field_in, settings_in, settable_bits, settable_dir_bits}
+use Rattle.volume_spec.specs.SetFileDirParms.{rights_in, set_fields, asked_bytes, is_short_tail, field_in, settings_in, settable_bits, settable_dir_bits}
 use Rattle.volume_spec.specs.ValueLaws.{settings_told}
 
 -- fields that are no names stand one after the other, and nothing behind them
@@ -175,9 +175,19 @@ tail-places bits word c m b info parent behind tail t =
     (size-asked (is_asked bits 4) 4 (big_bytes 4 (cast_unsigned w32 b)) (length-big_bytes 4 (cast_unsigned w32 b)))
     (size-asked (is_asked bits 5) 32 info t.info_size)
 
-tail-reads : (bits word : ℕ) (c m b : ℤ) (info parent behind tail : List ℕ) → Tail bits word c m b info parent behind tail → settings_in bits tail ≡ settings_told bits word c m b info
+-- what stands at the places of owner, group and access rights, where they are asked
+abbrev place-of : ℕ → ℕ → ℕ
+place-of bits bit = asked_bytes bits (filter (λ (field : ℕ × ℕ). nat_lt field.0 bit) set_fields)
+
+record Owners (bits : ℕ) (owner group rights tail : List ℕ) : Type 0 where
+  owner_at : is_asked bits 10 ≡ true → take 4 (drop (place-of bits 10) tail) ≡ owner
+  group_at : is_asked bits 11 ≡ true → take 4 (drop (place-of bits 11) tail) ≡ group
+  rights_at : is_asked bits 12 ≡ true → take 4 (drop (place-of bits 12) tail) ≡ rights
+
+tail-reads : (bits word : ℕ) (c m b : ℤ) (info parent behind tail : List ℕ) → Tail bits word c m b info parent behind tail → (owner group rights : List ℕ) → Owners bits owner group rights tail
+    → settings_in bits tail ≡ settings_told bits word c m b info (big_number 4 owner) (big_number 4 group) (rights_in rights)
 unfolding settings_in field_in
-tail-reads bits word c m b info parent behind tail t =
+tail-reads bits word c m b info parent behind tail t owner group rights o =
     let k0 : List ℕ = if-asked (is_asked bits 0) (big_bytes 2 word) in
     let k1 : List ℕ = if-asked (is_asked bits 1) parent in
     let p2 : List ℕ = big_bytes 4 (cast_unsigned w32 c) in
@@ -201,7 +211,24 @@ tail-reads bits word c m b info parent behind tail t =
     (l.four ∙ ap (λ n. n + cond (is_asked bits 2) 4 0 + cond (is_asked bits 3) 4 0) (none-before (cond (is_asked bits 0) 2 0))) (length-big_bytes 4 (cast_unsigned w32 b))) (date-again b t.b_fits) in
     let f5 = field-read (is_asked bits 5) _ info (found-at (is_asked bits 5) info ((((k0 ++ k1) ++ k2) ++ k3) ++ k4) behind tail (asked_bytes bits ((0, 2) ∷ (2, 4) ∷ (3, 4) ∷ (4, 4) ∷ [])) 32 e5
     (l.five ∙ ap (λ n. n + cond (is_asked bits 2) 4 0 + cond (is_asked bits 3) 4 0 + cond (is_asked bits 4) 4 0) (none-before (cond (is_asked bits 0) 2 0))) t.info_size) in
-    λ i. record { attributes = f0 i; created = f2 i; modified = f3 i; backup = f4 i; finder = f5 i }
+    let f10 = taken-as (big_number 4) (is_asked bits 10) (take 4 (drop (place-of bits 10) tail)) owner (big_number 4 owner) o.owner_at refl in
+    let f11 = taken-as (big_number 4) (is_asked bits 11) (take 4 (drop (place-of bits 11) tail)) group (big_number 4 group) o.group_at refl in
+    let f12 = taken-as rights_in (is_asked bits 12) (take 4 (drop (place-of bits 12) tail)) rights (rights_in rights) o.rights_at refl in
+    λ i. record { attributes = f0 i; created = f2 i; modified = f3 i; backup = f4 i; finder = f5 i; owner = f10 i; group = f11 i; rights = f12 i }
+
+-- the fields up to Finder info, and what is behind
+whole : (bits word : ℕ) (c m b : ℤ) (info parent behind tail : List ℕ) → Tail bits word c m b info parent behind tail
+    → tail ≡ (((((if-asked (is_asked bits 0) (big_bytes 2 word) ++ if-asked (is_asked bits 1) parent) ++ if-asked (is_asked bits 2) (big_bytes 4 (cast_unsigned w32 c))) ++ if-asked (is_asked bits 3) (big_bytes 4 (cast_unsigned w32 m)))
+    ++ if-asked (is_asked bits 4) (big_bytes 4 (cast_unsigned w32 b))) ++ if-asked (is_asked bits 5) info) ++ behind
+whole bits word c m b info parent behind tail t =
+    let k0 : List ℕ = if-asked (is_asked bits 0) (big_bytes 2 word) in
+    let k1 : List ℕ = if-asked (is_asked bits 1) parent in
+    let k2 : List ℕ = if-asked (is_asked bits 2) (big_bytes 4 (cast_unsigned w32 c)) in
+    let k3 : List ℕ = if-asked (is_asked bits 3) (big_bytes 4 (cast_unsigned w32 m)) in
+    let k4 : List ℕ = if-asked (is_asked bits 4) (big_bytes 4 (cast_unsigned w32 b)) in
+    let k5 : List ℕ = if-asked (is_asked bits 5) info in
+    t.is ∙ sym (append_assoc k0 k1 (k2 ++ (k3 ++ (k4 ++ (k5 ++ behind))))) ∙ sym (append_assoc (k0 ++ k1) k2 (k3 ++ (k4 ++ (k5 ++ behind)))) ∙ sym (append_assoc ((k0 ++ k1) ++ k2) k3 (k4 ++ (k5 ++ behind)))
+    ∙ sym (append_assoc (((k0 ++ k1) ++ k2) ++ k3) k4 (k5 ++ behind)) ∙ sym (append_assoc ((((k0 ++ k1) ++ k2) ++ k3) ++ k4) k5 behind)
 
 -- such a tail is not short, if what is behind Finder info has the bytes of owner, group and access rights
 tail-long : (bits word : ℕ) (c m b : ℤ) (info parent behind tail : List ℕ) → Tail bits word c m b info parent behind tail
@@ -215,10 +242,7 @@ tail-long bits word c m b info parent behind tail t more =
     let k4 : List ℕ = if-asked (is_asked bits 4) (big_bytes 4 (cast_unsigned w32 b)) in
     let k5 : List ℕ = if-asked (is_asked bits 5) info in
     let l = tail-places bits word c m b info parent behind tail t in
-    let whole : tail ≡ (((((k0 ++ k1) ++ k2) ++ k3) ++ k4) ++ k5) ++ behind =
-    t.is ∙ sym (append_assoc k0 k1 (k2 ++ (k3 ++ (k4 ++ (k5 ++ behind))))) ∙ sym (append_assoc (k0 ++ k1) k2 (k3 ++ (k4 ++ (k5 ++ behind)))) ∙ sym (append_assoc ((k0 ++ k1) ++ k2) k3 (k4 ++ (k5 ++ behind)))
-    ∙ sym (append_assoc (((k0 ++ k1) ++ k2) ++ k3) k4 (k5 ++ behind)) ∙ sym (append_assoc ((((k0 ++ k1) ++ k2) ++ k3) ++ k4) k5 behind) in
-    let size = ap length whole ∙ length-append (((((k0 ++ k1) ++ k2) ++ k3) ++ k4) ++ k5) behind ∙ ap (λ n. n + length behind) l.six in
+    let size = ap length (whole bits word c m b info parent behind tail t) ∙ length-append (((((k0 ++ k1) ++ k2) ++ k3) ++ k4) ++ k5) behind ∙ ap (λ n. n + length behind) l.six in
     le-ltb (length tail) (asked_bytes bits set_fields) (enough _ _ _ _ _ _ _ _ (length behind) (length tail) size more)
   where
     enough : (s0 s2 s3 s4 s5 s10 s11 s12 z n : ℕ) → n ≡ s0 + s2 + s3 + s4 + s5 + z → s10 + s11 + s12 ≤ z → 0 + s0 + s2 + s3 + s4 + s5 + s10 + s11 + s12 ≤ n
@@ -268,14 +292,18 @@ file-tail bits f rest within answer =
     }
 
 pub file-told-is-set : (bits : ℕ) (f : FileValues) (rest : List ℕ) → is_outside settable_bits bits ≡ false → IsAnswer 1 bits (File f)
-    → (is_short_tail bits (params bits (File f) ++ rest) ≡ false) × (settings_in bits (params bits (File f) ++ rest) ≡ settings_told bits f.attributes f.created f.modified f.backup f.finder)
+    → (is_short_tail bits (params bits (File f) ++ rest) ≡ false) × (settings_in bits (params bits (File f) ++ rest) ≡ settings_told bits f.attributes f.created f.modified f.backup f.finder 0 0 (rights_in []))
 file-told-is-set bits f rest within answer =
     let t = file-tail bits f rest within answer in (
       tail-long bits f.attributes f.created f.modified f.backup f.finder _ _ _ t (none _ _ _ _
           (unset 10 (not_asked settable_bits bits 10 within refl)) (unset 11 (not_asked settable_bits bits 11 within refl)) (unset 12 (not_asked settable_bits bits 12 within refl))),
-      tail-reads bits f.attributes f.created f.modified f.backup f.finder _ _ _ t,
+      tail-reads bits f.attributes f.created f.modified f.backup f.finder _ _ _ t [] [] []
+          (record { owner_at = never 10 (not_asked settable_bits bits 10 within refl); group_at = never 11 (not_asked settable_bits bits 11 within refl); rights_at = never 12 (not_asked settable_bits bits 12 within refl) }),
     )
   where
+    never : {A : Type 0} (k : ℕ) → is_asked bits k ≡ false → is_asked bits k ≡ true → A
+    never k unasked asked = absurd (both_ways (is_asked bits k) unasked asked)
+
     size : ℕ → ℕ
     size k = cond (is_asked bits k) 4 0
 
@@ -336,10 +364,54 @@ dir-behind bits d rest =
         let h7 = length-append z g in
         omega (arith, h1, h2, h3, h4, h5, h6, h7, lx, ly, lz)
 
+-- in the block of a directory they stand one behind another, right behind Finder info
+dir-owners : (bits : ℕ) (d : DirValues) (rest : List ℕ) → is_outside settable_dir_bits bits ≡ false → (tail : List ℕ)
+    → Tail bits d.attributes d.created d.modified d.backup d.finder (big_bytes 4 d.parent) (flat_map (chunk bits) (drop 6 (dir_rows d)) ++ rest) tail
+    → Owners bits (big_bytes 4 d.owner) (big_bytes 4 d.group) (big_bytes 4 d.rights) tail
+unfolding dir_rows chunk
+dir-owners bits d rest within tail t =
+    let p10 : List ℕ = big_bytes 4 d.owner in
+    let p11 : List ℕ = big_bytes 4 d.group in
+    let p12 : List ℕ = big_bytes 4 d.rights in
+    let k10 : List ℕ = if-asked (is_asked bits 10) p10 in
+    let k11 : List ℕ = if-asked (is_asked bits 11) p11 in
+    let k12 : List ℕ = if-asked (is_asked bits 12) p12 in
+    let k13 : List ℕ = cond (is_asked bits 13) (fixed_bytes 0 (Utf8Name d.utf8_name)) [] ++ [] in
+    let front : List ℕ = ((((if-asked (is_asked bits 0) (big_bytes 2 d.attributes) ++ if-asked (is_asked bits 1) (big_bytes 4 d.parent)) ++ if-asked (is_asked bits 2) (big_bytes 4 (cast_unsigned w32 d.created)))
+    ++ if-asked (is_asked bits 3) (big_bytes 4 (cast_unsigned w32 d.modified))) ++ if-asked (is_asked bits 4) (big_bytes 4 (cast_unsigned w32 d.backup))) ++ if-asked (is_asked bits 5) d.finder in
+    let l = tail-places bits d.attributes d.created d.modified d.backup d.finder (big_bytes 4 d.parent) _ tail t in
+    let more : List ℕ = k13 ++ rest in
+    let no6 = not_asked settable_dir_bits bits 6 within refl in
+    let no8 = not_asked settable_dir_bits bits 8 within refl in
+    let no9 = not_asked settable_dir_bits bits 9 within refl in
+    let behind = gone (is_asked bits 6) (is_asked bits 8) (is_asked bits 9) _ _ _ k10 k11 k12 k13 rest no6 no8 no9 in
+    let e10 : tail ≡ front ++ (k10 ++ (k11 ++ (k12 ++ more))) = whole bits d.attributes d.created d.modified d.backup d.finder (big_bytes 4 d.parent) _ tail t ∙ ap (λ b. front ++ b) behind in
+    let e11 : tail ≡ (front ++ k10) ++ (k11 ++ (k12 ++ more)) = e10 ∙ sym (append_assoc front k10 (k11 ++ (k12 ++ more))) in
+    let e12 : tail ≡ ((front ++ k10) ++ k11) ++ (k12 ++ more) = e11 ∙ sym (append_assoc (front ++ k10) k11 (k12 ++ more)) in
+    let s10 = size-asked (is_asked bits 10) 4 p10 (length-big_bytes 4 d.owner) in
+    let s11 = size-asked (is_asked bits 11) 4 p11 (length-big_bytes 4 d.group) in
+    let l10 : length front ≡ place-of bits 10 = l.six ∙ ap (λ n. n + cond (is_asked bits 2) 4 0 + cond (is_asked bits 3) 4 0 + cond (is_asked bits 4) 4 0 + cond (is_asked bits 5) 32 0) (none-before (cond (is_asked bits 0) 2 0)) in
+    let l11 : length (front ++ k10) ≡ place-of bits 11 = length-append front k10 ∙ (λ i. l10 i + s10 i) in
+    let l12 : length ((front ++ k10) ++ k11) ≡ place-of bits 12 = length-append (front ++ k10) k11 ∙ (λ i. l11 i + s11 i) in
+    record {
+      owner_at = found-at (is_asked bits 10) p10 front (k11 ++ (k12 ++ more)) tail (place-of bits 10) 4 e10 l10 (length-big_bytes 4 d.owner);
+      group_at = found-at (is_asked bits 11) p11 (front ++ k10) (k12 ++ more) tail (place-of bits 11) 4 e11 l11 (length-big_bytes 4 d.group);
+      rights_at = found-at (is_asked bits 12) p12 ((front ++ k10) ++ k11) more tail (place-of bits 12) 4 e12 l12 (length-big_bytes 4 d.rights);
+    }
+  where
+    gone : (a b c : Bool) (p q r x y z g rest : List ℕ) → a ≡ false → b ≡ false → c ≡ false → (cond a p [] ++ (cond b q [] ++ (cond c r [] ++ (x ++ (y ++ (z ++ g)))))) ++ rest ≡ x ++ (y ++ (z ++ (g ++ rest)))
+    gone true b c p q r x y z g rest h i j = absurd (cc)
+    gone false true c p q r x y z g rest h i j = absurd (cc)
+    gone false false true p q r x y z g rest h i j = absurd (cc)
+    gone false false false p q r x y z g rest h i j = append_assoc x (y ++ (z ++ g)) rest ∙ ap (λ l. x ++ l) (append_assoc y (z ++ g) rest ∙ ap (λ l. y ++ l) (append_assoc z g rest))
+
 pub dir-told-is-set : (bits : ℕ) (d : DirValues) (rest : List ℕ) → is_outside settable_dir_bits bits ≡ false → IsAnswer 2 bits (Dir d)
-    → (is_short_tail bits (params bits (Dir d) ++ rest) ≡ false) × (settings_in bits (params bits (Dir d) ++ rest) ≡ settings_told bits d.attributes d.created d.modified d.backup d.finder)
+    → (is_short_tail bits (params bits (Dir d) ++ rest) ≡ false) × (settings_in bits (params bits (Dir d) ++ rest) ≡ settings_told bits d.attributes d.created d.modified d.backup d.finder d.owner d.group (rights_in (big_bytes 4 d.rights)))
+unfolding rows dir_rows
 dir-told-is-set bits d rest within answer =
-    let t = dir-tail bits d rest within answer in (
+    let t = dir-tail bits d rest within answer in
+    let a = answer.typed in (
       tail-long bits d.attributes d.created d.modified d.backup d.finder _ _ _ t (dir-behind bits d rest),
-      tail-reads bits d.attributes d.created d.modified d.backup d.finder _ _ _ t,
+      tail-reads bits d.attributes d.created d.modified d.backup d.finder _ _ _ t (big_bytes 4 d.owner) (big_bytes 4 d.group) (big_bytes 4 d.rights) (dir-owners bits d rest within _ t)
+          ∙ (λ i. settings_told bits d.attributes d.created d.modified d.backup d.finder (number_again 4 d.owner [] a.1.1.1.1.1.1.1.1.1.0 i) (number_again 4 d.group [] a.1.1.1.1.1.1.1.1.1.1.0 i) (rights_in (big_bytes 4 d.rights))),
     )

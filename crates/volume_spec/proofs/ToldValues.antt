@@ -1,6 +1,6 @@
 -- What is told are values that the bits ask for, each one of its type.
 use Rattle.std.proofs.Common.{◌==◌, ◌≡◌, ◌∙◌, ap, refl, ℕ, ◌+◌, ◌-◌, ◌≤◌, ◌<◌, ◌^◌, min, arith, ℤ, pos, negsuc, Bool, true, false, not, ◌&&◌, cond, List, [], ◌∷◌, length, replicate, Option, Some, None, subst}
-use Rattle.std.specs.Prelude.{Result, Ok, Err, is_none, is_some, option_map, nat_le, nat_lt, bytes_eq, MatchBool, FitsSigned}
+use Rattle.std.specs.Prelude.{Result, Ok, Err, is_none, is_some, option_map, nat_le, nat_lt, bit_or, bytes_eq, MatchBool, FitsSigned}
 use Rattle.std.specs.Int.{w32}
 use Rattle.std.specs.List.{find}
 use Rattle.std.proofs.lemmas.Bool.{and_parts, both_ways, cond_both, eqb-true, ltb-true, leb-true, not-false}
@@ -29,14 +29,15 @@ use Rattle.volume_spec.specs.OpenDir.{open_dir_refusal, open_dir_id}
 use Rattle.afp_names.specs.Path.{PathValue}
 use Rattle.volume_spec.specs.GetVolParms.{free_bytes, volume_values}
 use Rattle.volume_spec.specs.Listing.{children}
-use Rattle.volume_spec.specs.NodeValues.{has_open_fork, told_attributes, file_values, dir_values, bits_of, node_values}
+use Rattle.volume_spec.specs.NodeValues.{has_open_fork, told_attributes, file_values, dir_values, bits_of, node_values, told_rights}
 use Rattle.afp_base.specs.Limits.{most_fork_bytes}
-use Rattle.volume_spec.specs.SoundVolume.{IsSoundVolume, is_formed, is_named, fork_bytes, row_bytes, is_in_place, leads_to_root, has_fit_privileges}
-use Rattle.volume_spec.specs.TypedVolume.{is_date, is_typed_row, is_typed_volume}
-use Rattle.volume_spec.specs.VolumeState.{Row, VolumeState, root_id, root_parent, first_id}
+use Rattle.volume_spec.specs.SoundVolume.{IsSoundVolume, is_formed, is_named, fork_bytes, row_bytes, is_in_place, leads_to_root, has_fit_privileges, are_rights}
+use Rattle.volume_spec.specs.TypedVolume.{is_date, is_typed_row, is_typed_volume, is_long}
+use Rattle.volume_spec.specs.VolumeState.{Row, VolumeState, root_id, root_parent, first_id, Privileges, only_group}
 use Rattle.volume_spec.specs.Walk.{found, has_directory, row_at}
 use Rattle.afp_base.proofs.Facts.{none_from_is_none}
 use Rattle.afp_base.proofs.ListFacts.{find-all, find-passes}
+use Rattle.volume_spec.specs.Rights.{rights_of}
 
 -- a value that stands where its bit is asked, and is blank where not
 
@@ -81,6 +82,7 @@ pub record RowFacts (row : Row) : Type 0 where
   pub finder : length row.finder ≡ 32
   pub data_fork : length row.data_fork < 2 ^ 32
   pub resource_fork : length row.resource_fork < 2 ^ 32
+  pub privileges : has_fit_privileges row.dir row.privileges ≡ true
 
 -- the forks of one row are no more than all
 pub bytes-within : (p : Row → Bool) (rows : List Row) (row : Row) → find p rows ≡ Some row → row_bytes row ≤ fork_bytes rows
@@ -115,6 +117,7 @@ row-facts v id row at_id s t =
       finder = eqb-true (length row.finder) 32 e.1;
       data_fork = omega arith;
       resource_fork = omega arith;
+      privileges = (and_parts (has_fit_privileges row.dir row.privileges) _ formed).0;
     }
 
 attributes-short : (opens : List Opened) (row : Row) → row.attributes < 2 ^ 16 → told_attributes opens row < 2 ^ 16
@@ -215,12 +218,36 @@ file-told opens bits row f =
       );
     }
 
-dir-told : (v : VolumeState) (bits : ℕ) (row : Row) → RowFacts row → IsAnswer 2 bits (Dir (dir_values v.rows bits row))
+-- the rights that a user is told take four bytes
+rights-of : (dir : Bool) (p : Privileges) → has_fit_privileges dir p ≡ true → are_rights p ≡ true
+rights-of true p h = h
+rights-of false p h =
+    let a = and_parts ((p.owner == 0) && (p.group == 0)) _ h in
+    let b = and_parts (p.everyone_rights == 0) _ a.1 in
+    let d = and_parts (p.group_rights == 0) (p.owner_rights == 0) b.1 in
+    λ i. nat_le (eqb-true p.everyone_rights 0 b.0 i) 7 && (nat_le (eqb-true p.group_rights 0 d.0 i) 7 && nat_le (eqb-true p.owner_rights 0 d.1 i) 7)
+
+rights-short : (p : Privileges) (user : ℕ) → are_rights p ≡ true → told_rights p user < 256 ^ 4
+unfolding told_rights rights_of
+rights-short p user h =
+    let a = and_parts (nat_le p.everyone_rights 7) _ h in
+    let b = and_parts (nat_le p.group_rights 7) (nat_le p.owner_rights 7) a.1 in
+    let everyone : p.everyone_rights ≤ 7 = leb-true p.everyone_rights 7 a.0 in
+    let group : p.group_rights ≤ 7 = leb-true p.group_rights 7 b.0 in
+    let owner : p.owner_rights ≤ 7 = leb-true p.owner_rights 7 b.1 in
+    let by_group : cond (p.group == only_group) p.group_rights 0 < 2 ^ 3 = cond_both (p.group == only_group) p.group_rights 0 (λ n. n < 2 ^ 3) (λ is. omega arith) (λ other. omega arith) in
+    let by_owner : cond (p.owner == user) p.owner_rights 0 < 2 ^ 3 = cond_both (p.owner == user) p.owner_rights 0 (λ n. n < 2 ^ 3) (λ is. omega arith) (λ other. omega arith) in
+    let own : bit_or p.everyone_rights (bit_or (cond (p.group == only_group) p.group_rights 0) (cond (p.owner == user) p.owner_rights 0)) < 2 ^ 3 = or_lt 3 p.everyone_rights _ (omega arith) (or_lt 3 _ _ by_group by_owner) in
+    let bit : cond (p.owner == user) 0x80 0 ≤ 0x80 = cond_both (p.owner == user) 0x80 0 (λ n. n ≤ 0x80) (λ is. omega arith) (λ other. omega arith) in
+    omega arith
+
+dir-told : (v : VolumeState) (user : ℕ) (bits : ℕ) (row : Row) → RowFacts row → IsAnswer 2 bits (Dir (dir_values v.rows user bits row))
 unfolding dir_values rows dir_rows Fits
-dir-told v bits row f =
+dir-told v user bits row f =
     let t : TypedRow row = f.typed in
     let asked : ℕ → Bool = λ bit. is_asked bits bit in
     let offspring : ℕ = min 65535 (length (children v.rows row.id)) in
+    let own = and_parts (is_long row.privileges.owner) (is_long row.privileges.group) t.privileges in
     record {
       kind_is = refl;
       fits = (
@@ -242,11 +269,11 @@ dir-told v bits row f =
                       (
                         number-fits (asked 9) 2 offspring,
                         (
-                          number-fits (asked 10) 4 500,
+                          number-fits (asked 10) 4 row.privileges.owner,
                           (
-                            number-fits (asked 11) 4 500,
+                            number-fits (asked 11) 4 row.privileges.group,
                             (
-                              number-fits (asked 12) 4 0x87070707,
+                              number-fits (asked 12) 4 (told_rights row.privileges user),
                               (
                                 utf8-fits (asked 13) row.name (let h = f.name in omega arith),
                                 tt,
@@ -282,11 +309,11 @@ dir-told v bits row f =
                       (
                         number-typed (asked 9) (256 ^ 2) offspring (omega arith),
                         (
-                          number-typed (asked 10) (256 ^ 4) 500 (omega arith),
+                          number-typed (asked 10) (256 ^ 4) row.privileges.owner (ltb-true row.privileges.owner 4294967296 own.0),
                           (
-                            number-typed (asked 11) (256 ^ 4) 500 (omega arith),
+                            number-typed (asked 11) (256 ^ 4) row.privileges.group (ltb-true row.privileges.group 4294967296 own.1),
                             (
-                              number-typed (asked 12) (256 ^ 4) 0x87070707 (omega arith),
+                              number-typed (asked 12) (256 ^ 4) (told_rights row.privileges user) (rights-short row.privileges user (rights-of row.dir row.privileges f.privileges)),
                               (
                                 tt,
                                 tt,
@@ -305,15 +332,15 @@ dir-told v bits row f =
       );
     }
 
-pub node-told : (v : VolumeState) (opens : List Opened) (file_bits dir_bits id : ℕ) (row : Row) → row_at v.rows id ≡ Some row → IsSoundVolume v → is_typed_volume v ≡ true
-    → IsAnswer (cond row.dir 2 1) (bits_of file_bits dir_bits row) (node_values v.rows opens file_bits dir_bits row)
+pub node-told : (v : VolumeState) (user : ℕ) (opens : List Opened) (file_bits dir_bits id : ℕ) (row : Row) → row_at v.rows id ≡ Some row → IsSoundVolume v → is_typed_volume v ≡ true
+    → IsAnswer (cond row.dir 2 1) (bits_of file_bits dir_bits row) (node_values v.rows user opens file_bits dir_bits row)
 unfolding node_values
-node-told v opens file_bits dir_bits id row at_id s t =
+node-told v user opens file_bits dir_bits id row at_id s t =
     let f = row-facts v id row at_id s t in
-    by row.dir (dir-told v dir_bits row f) (file-told opens file_bits row f)
+    by row.dir (dir-told v user dir_bits row f) (file-told opens file_bits row f)
   where
-    by : (dir : Bool) → IsAnswer 2 dir_bits (Dir (dir_values v.rows dir_bits row)) → IsAnswer 1 file_bits (File (file_values opens file_bits row))
-        → IsAnswer (cond dir 2 1) (cond dir dir_bits file_bits) (cond dir (Dir (dir_values v.rows dir_bits row)) (File (file_values opens file_bits row)))
+    by : (dir : Bool) → IsAnswer 2 dir_bits (Dir (dir_values v.rows user dir_bits row)) → IsAnswer 1 file_bits (File (file_values opens file_bits row))
+        → IsAnswer (cond dir 2 1) (cond dir dir_bits file_bits) (cond dir (Dir (dir_values v.rows user dir_bits row)) (File (file_values opens file_bits row)))
     by true d f = d
     by false d f = f
 
@@ -426,18 +453,18 @@ behind-passes : {A : Type 0} (r : Result A Code) (refused : A → Option Code) �
 behind-passes (Ok a) refused h = (a, refl, h)
 behind-passes (Err code) refused h = absurd (cc)
 
-pub found-told : (v : VolumeState) (opens : List Opened) (file_bits dir_bits dir : ℕ) (path : PathValue) → get_file_dir_parms_refusal v file_bits dir_bits dir path ≡ None → IsSoundVolume v → is_some (get_file_dir_parms_values v opens file_bits dir_bits dir path) ≡ true
+pub found-told : (v : VolumeState) (user : ℕ) (opens : List Opened) (file_bits dir_bits dir : ℕ) (path : PathValue) → get_file_dir_parms_refusal v user file_bits dir_bits dir path ≡ None → IsSoundVolume v → is_some (get_file_dir_parms_values v user opens file_bits dir_bits dir path) ≡ true
 unfolding get_file_dir_parms_refusal get_file_dir_parms_values
-found-told v opens file_bits dir_bits dir path passes s =
+found-told v user opens file_bits dir_bits dir path passes s =
     let first = none-first ((is_outside file_mask file_bits, BitmapErr) ∷ (is_outside dir_mask dir_bits, BitmapErr) ∷ []) _ passes in
-    let is = behind-passes (found v.rows dir path) _ first.1 in
-    let row = row-there v.rows is.0 (walk-there v path.kind ObjectNotFound dir path.steps is.0 (tree-parts v s.tree) is.1) in
-    ap (λ (r : Result ℕ Code). is_some (done_at r None (λ id. option_map (node_values v.rows opens file_bits dir_bits) (row_at v.rows id)))) is.1
-    ∙ ap (λ o. is_some (option_map (node_values v.rows opens file_bits dir_bits) o)) row.1
+    let is = behind-passes (found v.rows user dir path) _ first.1 in
+    let row = row-there v.rows is.0 (walk-there v user path.kind ObjectNotFound dir path.steps is.0 (tree-parts v s.tree) is.1) in
+    ap (λ (r : Result ℕ Code). is_some (done_at r None (λ id. option_map (node_values v.rows user opens file_bits dir_bits) (row_at v.rows id)))) is.1
+    ∙ ap (λ o. is_some (option_map (node_values v.rows user opens file_bits dir_bits) o)) row.1
 
-pub dir-told-id : (v : VolumeState) (dir : ℕ) (path : PathValue) → open_dir_refusal v dir path ≡ None → (id : ℕ) × (open_dir_id v dir path ≡ Some id) × (has_directory v.rows id ≡ true)
+pub dir-told-id : (v : VolumeState) (user : ℕ) (dir : ℕ) (path : PathValue) → open_dir_refusal v user dir path ≡ None → (id : ℕ) × (open_dir_id v user dir path ≡ Some id) × (has_directory v.rows id ≡ true)
 unfolding open_dir_refusal open_dir_id
-dir-told-id v dir path passes =
-    let is = behind-passes (found v.rows dir path) _ passes in
+dir-told-id v user dir path passes =
+    let is = behind-passes (found v.rows user dir path) _ passes in
     let none = none-holds ((not (has_directory v.rows is.0), ObjectTypeErr) ∷ []) is.2 in
     (is.0, ap (λ (r : Result ℕ Code). done_at r None Some) is.1, not-false (has_directory v.rows is.0) none.0)

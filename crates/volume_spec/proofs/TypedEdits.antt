@@ -1,6 +1,6 @@
 -- Each edit of a volume keeps its numbers in their ranges.
 use Rattle.std.proofs.Common.{◌==◌, ◌≡◌, ◌∙◌, ap, sym, refl, ℕ, zero, suc, ◌+◌, ◌-◌, ◌≤◌, ◌<◌, arith, pos, negsuc, Bool, true, false, not, ◌&&◌, cond, List, [], ◌∷◌, take, drop, Option, Some, None, ltb}
-use Rattle.std.specs.Prelude.{nat_le, nat_lt, option_map, unwrap_or, bit_and, bit_or}
+use Rattle.std.specs.Prelude.{nat_le, nat_lt, option_map, unwrap_or, bit_and, bit_or, slice_index}
 use Rattle.std.specs.Int.{bit_not, w16, w32, cast_signed}
 use Rattle.std.specs.List.{filter, list_all}
 use Rattle.std.proofs.lemmas.Bool.{and_parts, and_from, cond_both, eqb-true, le-leb, lt-ltb, ltb-true, ltb-false}
@@ -9,12 +9,13 @@ use Rattle.byteorder.specs.Endian.{big_number}
 use Rattle.afp_bitmap.specs.Bits.{is_asked}
 use Rattle.volume_spec.specs.Edits.{with_changed, change_at, at_place, changed_at, with_row, without, without_node, with_moved, named, renamed}
 use Rattle.volume_spec.specs.Parms.{date_in}
-use Rattle.volume_spec.specs.SetFileDirParms.{Settings, set_fields, asked_bytes, field_in, settings_in, attributes_by, with_settings}
+use Rattle.volume_spec.specs.SetFileDirParms.{Settings, set_fields, asked_bytes, field_in, settings_in, attributes_by, with_settings, privileges_by}
 use Rattle.volume_spec.specs.SoundVolume.{file_attributes, dir_attributes, last_next_id}
 use Rattle.volume_spec.specs.TypedVolume.{is_byte, is_word, is_long, are_bytes, is_date, is_typed_row, is_typed_comment, is_typed_icon, is_typed_appl, is_typed_volume, are_typed}
-use Rattle.volume_spec.specs.VolumeState.{Row, Comment, Appl, VolumeState, guest, new_privileges}
+use Rattle.volume_spec.specs.VolumeState.{Row, Comment, Appl, VolumeState, Privileges, new_privileges}
 use Rattle.volume_spec.specs.Walk.{has_directory}
 use Rattle.afp_base.proofs.ListFacts.{all-filter, all-map-where, all-snoc, any-at}
+use Rattle.byteorder.specs.Numbers.{big_from-lt}
 
 -- a row's numbers, each apart
 pub record TypedRow (row : Row) : Type 0 where
@@ -58,9 +59,9 @@ row-whole row t =
     (and_from (are_bytes row.data_fork) (are_bytes row.resource_fork) t.data_fork t.resource_fork)))))))))
 
 -- the owner and the group of a new directory or file
-pub new-typed : (dir : Bool) → are_typed (new_privileges dir guest) ≡ true
-new-typed true = refl
-new-typed false = refl
+pub new-typed : (dir : Bool) (user : ℕ) → is_long user ≡ true → are_typed (new_privileges dir user) ≡ true
+new-typed true user long = and_from (is_long user) true long refl
+new-typed false user long = refl
 
 -- a volume's numbers, each list apart
 pub record TypedParts (v : VolumeState) : Type 0 where
@@ -186,12 +187,19 @@ drop-bytes zero xs h = h
 drop-bytes (suc n) [] h = refl
 drop-bytes (suc n) (x ∷ xs) h = drop-bytes n xs (and_parts (is_byte x) (are_bytes xs) h).1
 
+pub bytes-low : (xs : List ℕ) → are_bytes xs ≡ true → (k : ℕ) → slice_index xs k < 256
+bytes-low [] h k = omega arith
+bytes-low (x ∷ xs) h zero = ltb-true x 256 (and_parts (is_byte x) (are_bytes xs) h).0
+bytes-low (x ∷ xs) h (suc k) = bytes-low xs (and_parts (is_byte x) (are_bytes xs) h).1 k
+
 -- settings whose numbers are in their ranges
 pub record TypedSettings (s : Settings) : Type 0 where
   pub created : unwrap_or (option_map is_date s.created) true ≡ true
   pub modified : unwrap_or (option_map is_date s.modified) true ≡ true
   pub backup : unwrap_or (option_map is_date s.backup) true ≡ true
   pub finder : unwrap_or (option_map are_bytes s.finder) true ≡ true
+  pub owner : unwrap_or (option_map is_long s.owner) true ≡ true
+  pub group : unwrap_or (option_map is_long s.group) true ≡ true
 
 -- a value that may be set passes a test where both the old and the new one do
 either : {A : Type 0} (test : A → Bool) (o : Option A) (old : A) → unwrap_or (option_map test o) true ≡ true → test old ≡ true → test (unwrap_or o old) ≡ true
@@ -213,6 +221,13 @@ attributes-word : (dir : Bool) (o : Option ℕ) (old : ℕ) → is_word old ≡ 
 attributes-word dir None old h = h
 attributes-word dir (Some word) old h = settable-word dir word old
 
+privileges-typed : (dir : Bool) (s : Settings) → TypedSettings s → (p : Privileges) → are_typed p ≡ true → are_typed (privileges_by dir s p) ≡ true
+unfolding privileges_by
+privileges-typed false s t p h = h
+privileges-typed true s t p h =
+    let e = and_parts (is_long p.owner) (is_long p.group) h in
+    and_from (is_long (unwrap_or s.owner p.owner)) (is_long (unwrap_or s.group p.group)) (either is_long s.owner p.owner t.owner e.0) (either is_long s.group p.group t.group e.1)
+
 pub settings-typed : (s : Settings) → TypedSettings s → KeepsTyped (with_settings s)
 unfolding with_settings
 settings-typed s t row h =
@@ -225,7 +240,7 @@ settings-typed s t row h =
       modified = either is_date s.modified row.modified t.modified r.modified;
       backup = either is_date s.backup row.backup t.backup r.backup;
       finder = either are_bytes s.finder row.finder t.finder r.finder;
-      privileges = r.privileges;
+      privileges = privileges-typed row.dir s t row.privileges r.privileges;
       name = r.name;
       data_fork = r.data_fork;
       resource_fork = r.resource_fork;
@@ -234,7 +249,7 @@ settings-typed s t row h =
 -- what a tail of bytes holds
 pub tail-typed : (bits : ℕ) (tail : List ℕ) → are_bytes tail ≡ true → TypedSettings (settings_in bits tail)
 unfolding settings_in field_in
-tail-typed bits tail bytes = record { created = a-date 2; modified = a-date 3; backup = a-date 4; finder = info }
+tail-typed bits tail bytes = record { created = a-date 2; modified = a-date 3; backup = a-date 4; finder = info; owner = a-long 10; group = a-long 11 }
   where
     place : ℕ → ℕ
     place bit = asked_bytes bits (filter (λ (field : ℕ × ℕ). nat_lt field.0 bit) set_fields)
@@ -244,6 +259,11 @@ tail-typed bits tail bytes = record { created = a-date 2; modified = a-date 3; b
 
     a-date : (bit : ℕ) → unwrap_or (option_map is_date (option_map date_in (cond (is_asked bits bit) (Some (piece bit 4)) None))) true ≡ true
     a-date bit = cond_both (is_asked bits bit) (Some (piece bit 4)) None (λ o. unwrap_or (option_map is_date (option_map date_in o)) true ≡ true) (λ asked. any-date (piece bit 4)) (λ other. refl)
+
+    a-long : (bit : ℕ) → unwrap_or (option_map is_long (option_map (big_number 4) (cond (is_asked bits bit) (Some (piece bit 4)) None))) true ≡ true
+    a-long bit = cond_both (is_asked bits bit) (Some (piece bit 4)) None (λ o. unwrap_or (option_map is_long (option_map (big_number 4) o)) true ≡ true)
+        (λ asked. lt-ltb (big_number 4 (piece bit 4)) 4294967296 (big_from-lt 0 4 (piece bit 4) (bytes-low (piece bit 4) (take-bytes 4 (drop (place bit) tail) (drop-bytes (place bit) tail bytes)))))
+        (λ other. refl)
 
     info : unwrap_or (option_map are_bytes (cond (is_asked bits 5) (Some (piece 5 32)) None)) true ≡ true
     info = cond_both (is_asked bits 5) (Some (piece 5 32)) None (λ o. unwrap_or (option_map are_bytes o) true ≡ true)

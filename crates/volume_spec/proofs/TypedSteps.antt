@@ -1,5 +1,5 @@
 -- Calls one after another keep a volume's numbers in their ranges.
-use Rattle.std.proofs.Common.{◌≡◌, refl, subst, ℕ, pos, true, List, [], ◌∷◌, Option, Some, None}
+use Rattle.std.proofs.Common.{◌≡◌, refl, subst, ℕ, pos, true, List, [], ◌∷◌, Option, Some, None, ◌&&◌}
 use Rattle.std.specs.List.{list_all}
 use Rattle.std.proofs.lemmas.Bool.{and_parts, and_from}
 use Rattle.afp_base.specs.declared.code.Code.{Code}
@@ -15,20 +15,21 @@ use Rattle.volume_spec.specs.EditLaws.{volume_call}
 use Rattle.volume_spec.specs.Edits.{with_changed}
 use Rattle.volume_spec.specs.SoundVolume.{IsSoundVolume}
 use Rattle.volume_spec.specs.TreeSteps.{TreeStep, tree_refusal, tree_effect, is_named_call, is_typed_call, is_typed_step, unless_refused, after_step, after_steps}
-use Rattle.volume_spec.specs.TypedVolume.{is_date, is_typed_row, is_typed_volume}
+use Rattle.volume_spec.specs.TypedVolume.{is_date, is_typed_row, is_typed_volume, is_long}
 use Rattle.volume_spec.specs.VolumeCalls.{call_edits}
-use Rattle.volume_spec.specs.VolumeState.{Row, VolumeState, fresh_volume, new_row, root_id, root_parent}
+use Rattle.volume_spec.specs.VolumeState.{Row, VolumeState, fresh_volume, new_row, root_id, root_parent, guest}
 
-pub call-typed : (v : VolumeState) (step : TreeStep) → is_typed_step step ≡ true → is_named_call step.call ≡ true → tree_refusal v step.opens step.call ≡ None → IsSoundVolume v → is_typed_volume v ≡ true → is_typed_volume (tree_effect v step.now step.call) ≡ true
+pub call-typed : (v : VolumeState) (step : TreeStep) → is_typed_step step ≡ true → is_named_call step.call ≡ true → tree_refusal v step.user step.opens step.call ≡ None → IsSoundVolume v → is_typed_volume v ≡ true → is_typed_volume (tree_effect v step.user step.now step.call) ≡ true
 call-typed v step typed named passes s h =
-    let e = and_parts (is_date (pos step.now)) (is_typed_call step.call) typed in
-    subst (λ w. is_typed_volume w ≡ true) (effects-are v step.now step.call)
-    (edits-of-call-typed v step.now (call_edits v step.now (volume_call step.call)) e.0 (tree-may v step.opens step.now step.call named passes s) (tree-brings v step.opens step.now step.call e.0 e.1 named passes s h) h)
+    let e = and_parts (is_date (pos step.now)) (is_long step.user && is_typed_call step.call) typed in
+    let by = and_parts (is_long step.user) (is_typed_call step.call) e.1 in
+    subst (λ w. is_typed_volume w ≡ true) (effects-are v step.user step.now step.call)
+    (edits-of-call-typed v step.now (call_edits v step.user step.now (volume_call step.call)) e.0 (tree-may v step.user step.opens step.now step.call named passes s) (tree-brings v step.user step.opens step.now step.call by.0 e.0 by.1 named passes s h) h)
 
 step-typed : (v : VolumeState) (step : TreeStep) → is_typed_step step ≡ true → is_named_call step.call ≡ true → IsSoundVolume v → is_typed_volume v ≡ true → is_typed_volume (after_step v step) ≡ true
-step-typed v step typed named s h = by (tree_refusal v step.opens step.call) refl
+step-typed v step typed named s h = by (tree_refusal v step.user step.opens step.call) refl
   where
-    by : (o : Option Code) → tree_refusal v step.opens step.call ≡ o → is_typed_volume (unless_refused o v (tree_effect v step.now step.call)) ≡ true
+    by : (o : Option Code) → tree_refusal v step.user step.opens step.call ≡ o → is_typed_volume (unless_refused o v (tree_effect v step.user step.now step.call)) ≡ true
     by None passes = call-typed v step typed named passes s h
     by (Some code) refused = h
 
@@ -41,7 +42,7 @@ steps-typed v (step ∷ steps) typed named s h =
 
 pub fresh-typed : (name : List ℕ) (now : ℕ) → name_fault name ≡ None → is_date (pos now) ≡ true → is_typed_volume (fresh_volume name now) ≡ true
 fresh-typed name now good moment =
-    let root : Row = new_row true root_id root_parent name now in
+    let root : Row = new_row true guest root_id root_parent name now in
     let bytes = name-bytes name good in
     typed-whole (fresh_volume name now) (record {
       name = bytes;

@@ -1,5 +1,5 @@
 -- Where a walk through a tree leads there is a node.
-use Rattle.std.proofs.Common.{◌==◌, ◌≡◌, ◌∙◌, ap, refl, subst, ℕ, zero, suc, Bool, true, ◌&&◌, ◌||◌, cond, List, [], ◌∷◌, length, inl, inr, Option, Some, None}
+use Rattle.std.proofs.Common.{◌==◌, ◌≡◌, ◌∙◌, ap, refl, subst, ℕ, zero, suc, Bool, true, false, ◌&&◌, ◌||◌, cond, List, [], ◌∷◌, length, inl, inr, Option, Some, None}
 use Rattle.std.specs.Prelude.{bytes_eq, option_map, Result, Ok, Err, nat_le, nat_lt}
 use Rattle.std.specs.List.{list_any, find}
 use Rattle.std.proofs.lemmas.Bool.{and_parts, or_cases, or_left, or_right, cond_both, eqb-true, eq-eqb, cases_Bool, both_ways}
@@ -14,8 +14,9 @@ use Rattle.volume_spec.proofs.Leading.{goes_up}
 use Rattle.volume_spec.proofs.Trees.{TreeParts, drawn}
 use Rattle.volume_spec.specs.SoundVolume.{has_node, leads_to_root, is_in_place}
 use Rattle.volume_spec.specs.VolumeState.{Row, VolumeState, root_id, root_parent, first_id}
-use Rattle.volume_spec.specs.Walk.{row_at, parent_at, child_by_key, child_by_long_name, child, or_else, has_directory, failed_down, onward, walk_from, not_above_root, is_start, walk}
+use Rattle.volume_spec.specs.Walk.{row_at, parent_at, child_by_key, child_by_long_name, child, or_else, has_directory, failed_down, onward, walk_from, not_above_root, is_start, walk, unless_closed}
 use Rattle.afp_base.proofs.ListFacts.{any-weaker, find-all}
+use Rattle.volume_spec.specs.Rights.{is_closed}
 
 -- what an option that is mapped to something was
 pub record MappedFrom {A B : Type 0} (f : A → B) (o : Option A) (b : B) : Type 0 where
@@ -81,27 +82,33 @@ child-stands rows kind here name down h = or_right (down == root_parent) (has_no
     either None b one two h = two h
     either (Some id) b one two h = one h
 
+-- what leads somewhere is not closed
+pub is-open : (closed : Bool) (goes : Result ℕ Code) (id : ℕ) → unless_closed closed goes ≡ Ok id → goes ≡ Ok id
+is-open true goes id h = absurd (cc)
+is-open false goes id h = h
+
 -- on from a node that stands
 on-stands : (rows : List Row) (o : Option ℕ) (code : Code) (rest : ℕ → Result ℕ Code) (id : ℕ) → ((next : ℕ) → o ≡ Some next → stands rows next ≡ true)
     → ((next : ℕ) → stands rows next ≡ true → rest next ≡ Ok id → stands rows id ≡ true) → onward o code rest ≡ Ok id → stands rows id ≡ true
 on-stands rows None code rest id there further h = absurd (cc)
 on-stands rows (Some next) code rest id there further h = further next (there next refl) h
 
-walk-stands : (v : VolumeState) (kind : ℕ) (missing : Code) (steps : List Step) (here id : ℕ) → TreeParts v → stands v.rows here ≡ true → walk_from v.rows kind missing steps here ≡ Ok id → stands v.rows id ≡ true
-walk-stands v kind missing [] here id t there h = let same : here ≡ id = cc in subst (λ q. stands v.rows q ≡ true) same there
-walk-stands v kind missing (Up ∷ steps) here id t there h =
-    on-stands v.rows (parent_at v.rows here) ObjectNotFound (walk_from v.rows kind missing steps) id
-    (λ up is. parent-stands v here up t is) (λ up. walk-stands v kind missing steps up id t) h
-walk-stands v kind missing (Down name ∷ steps) here id t there h =
-    on-stands v.rows (child v.rows kind here name) (failed_down missing steps) (walk_from v.rows kind missing steps) id
-    (λ down is. child-stands v.rows kind here name down is) (λ down. walk-stands v kind missing steps down id t) h
+walk-stands : (v : VolumeState) (user kind : ℕ) (missing : Code) (steps : List Step) (here id : ℕ) → TreeParts v → stands v.rows here ≡ true → walk_from v.rows user kind missing steps here ≡ Ok id → stands v.rows id ≡ true
+walk-stands v user kind missing [] here id t there h = let same : here ≡ id = cc in subst (λ q. stands v.rows q ≡ true) same there
+walk-stands v user kind missing (Up ∷ steps) here id t there h =
+    on-stands v.rows (parent_at v.rows here) ObjectNotFound (walk_from v.rows user kind missing steps) id
+    (λ up is. parent-stands v here up t is) (λ up. walk-stands v user kind missing steps up id t) h
+walk-stands v user kind missing (Down name ∷ steps) here id t there h =
+    on-stands v.rows (child v.rows kind here name) (failed_down missing steps) (walk_from v.rows user kind missing steps) id
+    (λ down is. child-stands v.rows kind here name down is) (λ down. walk-stands v user kind missing steps down id t)
+    (is-open (is_closed v.rows user here) _ id h)
 
 -- where a walk leads there is a node
-pub walk-there : (v : VolumeState) (kind : ℕ) (missing : Code) (dir : ℕ) (steps : List Step) (id : ℕ) → TreeParts v → walk v.rows kind missing dir steps ≡ Ok id → has_node v.rows id ≡ true
+pub walk-there : (v : VolumeState) (user kind : ℕ) (missing : Code) (dir : ℕ) (steps : List Step) (id : ℕ) → TreeParts v → walk v.rows user kind missing dir steps ≡ Ok id → has_node v.rows id ≡ true
 unfolding walk
-walk-there v kind missing dir steps id t h =
-    cond_both (is_start v.rows dir) (not_above_root (walk_from v.rows kind missing steps dir)) (Err DirNotFound) (λ r. r ≡ Ok id → has_node v.rows id ≡ true)
-    (λ starts h. ends (walk_from v.rows kind missing steps dir) (λ id is. walk-stands v kind missing steps dir id t (start starts) is) h)
+walk-there v user kind missing dir steps id t h =
+    cond_both (is_start v.rows dir) (not_above_root (walk_from v.rows user kind missing steps dir)) (Err DirNotFound) (λ r. r ≡ Ok id → has_node v.rows id ≡ true)
+    (λ starts h. ends (walk_from v.rows user kind missing steps dir) (λ id is. walk-stands v user kind missing steps dir id t (start starts) is) h)
     (λ other h. absurd (cc)) h
   where
     start : is_start v.rows dir ≡ true → stands v.rows dir ≡ true

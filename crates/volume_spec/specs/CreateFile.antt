@@ -2,14 +2,15 @@
 use Rattle.std.specs.Prelude.{ℕ, ◌==◌, Bool, false, not, List, [], ◌∷◌, ◌++◌, Option, Some, None, bit_and}
 use Rattle.afp_base.specs.Choice.{first_holding}
 use Rattle.afp_base.specs.declared.code.Code.{Code}
-use Rattle.afp_base.specs.declared.code.Code.TheVariants.{ObjectExists, ObjectTypeErr, DiskFull, ObjectLocked, FileBusy}
+use Rattle.afp_base.specs.declared.code.Code.TheVariants.{AccessDenied, ObjectExists, ObjectTypeErr, DiskFull, ObjectLocked, FileBusy}
 use Rattle.afp_names.specs.Name.{name_key}
 use Rattle.afp_names.specs.Path.{PathValue}
 use Rattle.volume_spec.specs.Edit.{Edit, Goes, creates, edits_at}
 use Rattle.volume_spec.specs.VolumeState.{VolumeState}
 use Rattle.volume_spec.specs.Walk.{new_place, has_directory, child_by_key}
 use Rattle.volume_spec.specs.Edits.{without_node}
-use Rattle.volume_spec.specs.Shared.{Opened, behind, done_at, delete_inhibit, has_attribute, is_busy, has_no_ids, has_no_room, created}
+use Rattle.volume_spec.specs.Rights.{lacks, write_right}
+use Rattle.volume_spec.specs.Shared.{Opened, behind, done_at, first_or, delete_inhibit, has_attribute, is_busy, has_no_ids, has_no_room, created}
 
 -- whether a create is hard: bit 7 of its flag (AFP Reference, "FPCreateFile")
 abbrev pub is_hard : ℕ → Bool
@@ -32,14 +33,14 @@ without_replaced v None = v
 without_replaced v (Some old) = without_node old v
 
 -- why it is refused (this profile)
-unfoldable pub create_file_refusal : VolumeState → List Opened → Bool → ℕ → PathValue → Option Code
-create_file_refusal v opens hard dir path = behind (new_place v.rows dir path) (λ place.
-    create_file_there v opens hard (child_by_key v.rows place.dir (name_key place.name)))
+unfoldable pub create_file_refusal : VolumeState → ℕ → List Opened → Bool → ℕ → PathValue → Option Code
+create_file_refusal v user opens hard dir path = behind (new_place v.rows user dir path) (λ place. first_or ((lacks v.rows user write_right place.dir, AccessDenied) ∷ [])
+    (create_file_there v opens hard (child_by_key v.rows place.dir (name_key place.name))))
 
 -- the volume with the new file, and without the old one (AFP Reference, "FPCreateFile")
-unfoldable pub create_file_effect : VolumeState → ℕ → ℕ → PathValue → VolumeState
-create_file_effect v now dir path = done_at (new_place v.rows dir path) v (λ place.
-    created false now (without_replaced v (child_by_key v.rows place.dir (name_key place.name))) place)
+unfoldable pub create_file_effect : VolumeState → ℕ → ℕ → ℕ → PathValue → VolumeState
+create_file_effect v user now dir path = done_at (new_place v.rows user dir path) v (λ place.
+    created false user now (without_replaced v (child_by_key v.rows place.dir (name_key place.name))) place)
 
 -- the file that is replaced goes, if there is one
 abbrev pub replaces : Option ℕ → List Edit
@@ -47,5 +48,5 @@ replaces None = []
 replaces (Some old) = Goes old ∷ []
 
 -- the old file goes, and the new one comes
-abbrev pub create_file_edits : VolumeState → ℕ → ℕ → PathValue → List Edit
-create_file_edits v now dir path = edits_at (new_place v.rows dir path) (λ place. replaces (child_by_key v.rows place.dir (name_key place.name)) ++ creates false now v place)
+abbrev pub create_file_edits : VolumeState → ℕ → ℕ → ℕ → PathValue → List Edit
+create_file_edits v user now dir path = edits_at (new_place v.rows user dir path) (λ place. replaces (child_by_key v.rows place.dir (name_key place.name)) ++ creates false user now v place)

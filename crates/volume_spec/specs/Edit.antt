@@ -66,7 +66,7 @@ after_call v now (e ∷ es) = changed_at now (after_edits v (e ∷ es))
 
 -- a node's modified date is set
 abbrev pub dated_as : ℤ → ℕ → Edit
-dated_as date id = Sets id (record { attributes = None; created = None; modified = Some date; backup = None; finder = None })
+dated_as date id = Sets id (record { attributes = None; created = None; modified = Some date; backup = None; finder = None; owner = None; group = None; rights = None })
 
 -- a node's modified date is set to a moment
 abbrev pub dated : ℕ → ℕ → Edit
@@ -76,6 +76,6 @@ dated now id = dated_as (pos now) id
 abbrev pub edits_at : {A : Type 0} → Result A Code → (A → List Edit) → List Edit
 edits_at r edits = done_at r [] edits
 
--- a new node at a place, whose directory is dated
-abbrev pub creates : Bool → ℕ → VolumeState → Place → List Edit
-creates dir now v place = Comes (new_row dir v.next_id place.dir place.name now) ∷ dated now place.dir ∷ []
+-- a new node at a place, made by a user, whose directory is dated
+abbrev pub creates : Bool → ℕ → ℕ → VolumeState → Place → List Edit
+creates dir user now v place = Comes (new_row dir user v.next_id place.dir place.name now) ∷ dated now place.dir ∷ []

@@ -7,7 +7,7 @@ use Rattle.volume_spec.specs.Edit.{Edit, Comes, Goes, Renames, Moves, Sets, File
 use Rattle.volume_spec.specs.Edits.{has_children, is_below, is_taken}
 use Rattle.volume_spec.specs.ForkEffect.{fork_effect, fork_of, would_pass}
 use Rattle.volume_spec.specs.Shared.{Opened, is_busy}
-use Rattle.volume_spec.specs.SetFileDirParms.{has_sized_finder}
+use Rattle.volume_spec.specs.SetFileDirParms.{are_fit_settings}
 use Rattle.volume_spec.specs.SoundVolume.{fork_bytes, has_file, has_node, icon_key, is_formed, is_icon, last_next_id, most_nodes, row_bytes, IsSoundVolume}
 use Rattle.volume_spec.specs.TreeSteps as tree
 use Rattle.volume_spec.specs.TreeSteps.{TreeCall, tree_effect, tree_refusal}
@@ -79,7 +79,7 @@ MayEdit v (Comes row) = MayCome v row
 MayEdit v (Goes id) = MayGo v id
 MayEdit v (Renames id name) = MayRename v id name
 MayEdit v (Moves id parent name) = MayMove v id parent name
-MayEdit v (Sets id settings) = has_sized_finder settings ≡ true
+MayEdit v (Sets id settings) = are_fit_settings settings ≡ true
 MayEdit v (Files id filed) = has_file v.rows id ≡ true
 MayEdit v (Writes now id resource bytes) = MayWrite v id resource bytes
 MayEdit v (Exchanges a b) = MayExchange v a b
@@ -116,11 +116,11 @@ volume_call (tree.SetVolParms bits tail) = SetVolParms bits tail
 
 -- their effects are their edits
 abbrev pub EffectsAreEdits : Type 0
-EffectsAreEdits = (v : VolumeState) (now : ℕ) (call : TreeCall) → after_call v now (call_edits v now (volume_call call)) ≡ tree_effect v now call
+EffectsAreEdits = (v : VolumeState) (user now : ℕ) (call : TreeCall) → after_call v now (call_edits v user now (volume_call call)) ≡ tree_effect v user now call
 
 -- and they are refused where the calls on a volume are
 abbrev pub RefusalsAreThose : Type 0
-RefusalsAreThose = (v : VolumeState) (opens : List Opened) (call : TreeCall) → volume_refusal v opens (volume_call call) ≡ tree_refusal v opens call
+RefusalsAreThose = (v : VolumeState) (user : ℕ) (opens : List Opened) (call : TreeCall) → volume_refusal v user opens (volume_call call) ≡ tree_refusal v user opens call
 
 -- other bytes in a fork, that are written at a moment, are one edit
 abbrev pub ForkEffectsAreEdits : Type 0
@@ -128,7 +128,7 @@ ForkEffectsAreEdits = (v : VolumeState) (now id : ℕ) (resource : Bool) (bytes 
 
 -- where a call is not refused its edits may be made
 abbrev pub CallsMayEdit : Type 0
-CallsMayEdit = (v : VolumeState) (opens : List Opened) (now : ℕ) (call : VolumeCall) → is_formed_call call ≡ true → volume_refusal v opens call ≡ None → IsSoundVolume v → MayEditAll v (call_edits v now call)
+CallsMayEdit = (v : VolumeState) (user : ℕ) (opens : List Opened) (now : ℕ) (call : VolumeCall) → is_formed_call call ≡ true → volume_refusal v user opens call ≡ None → IsSoundVolume v → MayEditAll v (call_edits v user now call)
 
 -- over a call the next id does not fall; with this the law that follows goes from one call to the next
 abbrev pub NextIdDoesNotFall : Type 0
@@ -167,4 +167,4 @@ CallLetsFilesBe = (v : VolumeState) (opens : List Opened) (now : ℕ) (edits : L
 
 -- where a call is not refused, its edits let these files be
 abbrev pub CallsLetFilesBe : Type 0
-CallsLetFilesBe = (v : VolumeState) (opens : List Opened) (now : ℕ) (call : VolumeCall) → volume_refusal v opens call ≡ None → IsSoundVolume v → LetFilesBe v opens (call_edits v now call)
+CallsLetFilesBe = (v : VolumeState) (user : ℕ) (opens : List Opened) (now : ℕ) (call : VolumeCall) → volume_refusal v user opens call ≡ None → IsSoundVolume v → LetFilesBe v opens (call_edits v user now call)

@@ -10,13 +10,15 @@ use Rattle.volume_spec.specs.TypedVolume.{are_bytes, is_date, is_long, is_typed_
 use Rattle.volume_spec.specs.VolumeCalls.{VolumeCall, SetFileParms, SetDirParms, SetFileDirParms, SetVolParms, CopyFile, AddIcon, AddAPPL, AddComment, call_edits, is_formed_call, volume_refusal}
 use Rattle.volume_spec.specs.VolumeState.{VolumeState}
 
--- dates and Finder info, as far as they are set
+-- dates, Finder info, owner and group, as far as they are set
 abbrev pub is_typed_settings : Settings → Bool
 is_typed_settings s =
     unwrap_or (option_map is_date s.created) true
     && (unwrap_or (option_map is_date s.modified) true
     && (unwrap_or (option_map is_date s.backup) true
-    && unwrap_or (option_map are_bytes s.finder) true))
+    && (unwrap_or (option_map are_bytes s.finder) true
+    && (unwrap_or (option_map is_long s.owner) true
+    && unwrap_or (option_map is_long s.group) true))))
 
 -- what an edit brings
 abbrev pub is_typed_edit : Edit → Bool
@@ -52,5 +54,5 @@ CallKeepsTyped = (v : VolumeState) (now : ℕ) (edits : List Edit) → is_date (
 
 -- the edits of a call that is not refused bring no other numbers than the call, the moment and the volume have
 abbrev pub CallsBringTyped : Type 0
-CallsBringTyped = (v : VolumeState) (opens : List Opened) (now : ℕ) (call : VolumeCall) → is_date (pos now) ≡ true → is_typed_volume_call call ≡ true → is_formed_call call ≡ true → volume_refusal v opens call ≡ None → IsSoundVolume v → is_typed_volume v ≡ true
-    → list_all is_typed_edit (call_edits v now call) ≡ true
+CallsBringTyped = (v : VolumeState) (user : ℕ) (opens : List Opened) (now : ℕ) (call : VolumeCall) → is_long user ≡ true → is_date (pos now) ≡ true → is_typed_volume_call call ≡ true → is_formed_call call ≡ true → volume_refusal v user opens call ≡ None → IsSoundVolume v → is_typed_volume v ≡ true
+    → list_all is_typed_edit (call_edits v user now call) ≡ true

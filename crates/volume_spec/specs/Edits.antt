@@ -48,9 +48,9 @@ children_changed now dir v = record v { rows = with_changed dir (modified_at now
 abbrev pub with_row : Row → VolumeState → VolumeState
 with_row row v = record v { next_id = v.next_id + 1; rows = v.rows ++ (record row { id = v.next_id }) ∷ [] }
 
--- a volume with a new file or directory
-abbrev pub with_new : Bool → ℕ → List ℕ → ℕ → VolumeState → VolumeState
-with_new dir parent name now v = with_row (new_row dir v.next_id parent name now) v
+-- a volume with a new file or directory, made by a user
+abbrev pub with_new : Bool → ℕ → ℕ → List ℕ → ℕ → VolumeState → VolumeState
+with_new dir user parent name now v = with_row (new_row dir user v.next_id parent name now) v
 
 -- a volume without a node, its comment and its APPL mappings
 abbrev pub without_node : ℕ → VolumeState → VolumeState

@@ -4,7 +4,7 @@ use Rattle.std.specs.List.{filter, list_all}
 use Rattle.afp_base.specs.Choice.{first_holding}
 use Rattle.afp_base.specs.Limits.{payload_limit}
 use Rattle.afp_base.specs.declared.code.Code.{Code}
-use Rattle.afp_base.specs.declared.code.Code.TheVariants.{BitmapErr, ObjectNotFound, ObjectTypeErr, ParamErr}
+use Rattle.afp_base.specs.declared.code.Code.TheVariants.{AccessDenied, BitmapErr, ObjectNotFound, ObjectTypeErr, ParamErr}
 use Rattle.afp_bitmap.specs.Bits.{file_mask, dir_mask, is_outside}
 use Rattle.afp_bitmap.specs.Params.{params}
 use Rattle.afp_names.specs.Path.{PathValue}
@@ -13,11 +13,13 @@ use Rattle.volume_spec.specs.Walk.{found, has_directory}
 use Rattle.volume_spec.specs.Shared.{Opened, behind, first_or}
 use Rattle.volume_spec.specs.Listing.{listed}
 use Rattle.volume_spec.specs.NodeValues.{bits_of, node_values}
+use Rattle.volume_spec.specs.Rights.{lacks, read_right}
 
--- what is asked of a list: whether the lengths of its entries are wide (they are but in FPEnumerate), what to tell of files and of
+-- what is asked of a list, and by which user: whether the lengths of its entries are wide (they are but in FPEnumerate), what to tell of files and of
 -- directories, how many entries at most, from which on (the first is 1), and how many bytes the reply may have (AFP Reference, "FPEnumerate", "FPEnumerateExt2")
 pub record ListAsked : Type 0 where
   pub wide : Bool
+  pub user : ℕ
   pub file_bits : ℕ
   pub dir_bits : ℕ
   pub count : ℕ
@@ -25,11 +27,11 @@ pub record ListAsked : Type 0 where
   pub size : ℕ
 
 -- what FPEnumerate asks, and what FPEnumerateExt and FPEnumerateExt2 ask (AFP Reference, under these names)
-abbrev pub asked_narrow : ℕ → ℕ → ℕ → ℕ → ℕ → ListAsked
-asked_narrow file_bits dir_bits count start size = record { wide = false; file_bits = file_bits; dir_bits = dir_bits; count = count; start = start; size = size }
+abbrev pub asked_narrow : ℕ → ℕ → ℕ → ℕ → ℕ → ℕ → ListAsked
+asked_narrow user file_bits dir_bits count start size = record { wide = false; user = user; file_bits = file_bits; dir_bits = dir_bits; count = count; start = start; size = size }
 
-abbrev pub asked_wide : ℕ → ℕ → ℕ → ℕ → ℕ → ListAsked
-asked_wide file_bits dir_bits count start size = record { wide = true; file_bits = file_bits; dir_bits = dir_bits; count = count; start = start; size = size }
+abbrev pub asked_wide : ℕ → ℕ → ℕ → ℕ → ℕ → ℕ → ListAsked
+asked_wide user file_bits dir_bits count start size = record { wide = true; user = user; file_bits = file_bits; dir_bits = dir_bits; count = count; start = start; size = size }
 
 -- whether a node counts: a kind of which nothing is asked does not (AFP Reference, "FPEnumerate")
 abbrev pub is_counted : ListAsked → Row → Bool
@@ -55,7 +57,7 @@ longest_entry wide = if wide then 65535 else 255
 -- the bytes of a node's entry (AFP Reference, "FPEnumerate")
 unfoldable pub entry_size : List Row → List Opened → ListAsked → Row → ℕ
 entry_size rows opens asked row =
-    entry_head asked.wide + length (params (bits_of asked.file_bits asked.dir_bits row) (node_values rows opens asked.file_bits asked.dir_bits row))
+    entry_head asked.wide + length (params (bits_of asked.file_bits asked.dir_bits row) (node_values rows asked.user opens asked.file_bits asked.dir_bits row))
 
 -- whether these nodes' entries can stand in one reply: the whole list has the size that it may have, and each entry's length fits its field
 -- (AFP Reference, "FPEnumerate")
@@ -84,8 +86,9 @@ enumerate_refusal v opens asked dir path = first_or (
     ∷ (is_outside dir_mask asked.dir_bits, BitmapErr)
     ∷ ((asked.file_bits == 0) && (asked.dir_bits == 0), BitmapErr)
     ∷ [])
-    (behind (found v.rows dir path) (λ id. first_holding (
+    (behind (found v.rows asked.user dir path) (λ id. first_holding (
     (not (has_directory v.rows id), ObjectTypeErr)
+    ∷ (lacks v.rows asked.user read_right id, AccessDenied)
     ∷ (asked.count == 0, ParamErr)
     ∷ (asked.start == 0, ParamErr)
     ∷ (nat_lt (length (counted_children v.rows asked id)) asked.start, ObjectNotFound)

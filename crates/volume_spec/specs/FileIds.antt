@@ -4,13 +4,14 @@ use Rattle.std.specs.Prelude.{ℕ, ◌==◌, nat_lt, Bool, true, false, not, ◌
 use Rattle.std.specs.List.{list_any}
 use Rattle.afp_base.specs.Choice.{first_holding}
 use Rattle.afp_base.specs.declared.code.Code.{Code}
-use Rattle.afp_base.specs.declared.code.Code.TheVariants.{BadIDErr, BitmapErr, IDExists, IDNotFound, ObjectTypeErr}
+use Rattle.afp_base.specs.declared.code.Code.TheVariants.{AccessDenied, BadIDErr, BitmapErr, IDExists, IDNotFound, ObjectTypeErr}
 use Rattle.afp_bitmap.specs.Bits.{file_mask, is_outside}
 use Rattle.afp_bitmap.specs.declared.params.Values.{Values}
 use Rattle.afp_names.specs.Path.{PathValue}
 use Rattle.volume_spec.specs.Edit.{Edit, Files, edits_at}
 use Rattle.volume_spec.specs.OpenFork.{file_of, fork_values}
-use Rattle.volume_spec.specs.Shared.{Opened, behind, found_id}
+use Rattle.volume_spec.specs.Rights.{read_right, write_right}
+use Rattle.volume_spec.specs.Shared.{Opened, behind, found_id, lacks_above}
 use Rattle.volume_spec.specs.SoundVolume.{has_file, has_node}
 use Rattle.volume_spec.specs.VolumeState.{Row, VolumeState, first_id}
 use Rattle.volume_spec.specs.Walk.{found, row_at}
@@ -20,25 +21,27 @@ unfoldable pub is_filed : List Row → ℕ → Bool
 is_filed rows id = list_any (λ row. (row.id == id) && (not row.dir && row.filed)) rows
 
 -- FPCreateID: why it is refused
-unfoldable pub create_id_refusal : VolumeState → ℕ → PathValue → Option Code
-create_id_refusal v dir path = behind (found v.rows dir path) (λ id. first_holding (
+unfoldable pub create_id_refusal : VolumeState → ℕ → ℕ → PathValue → Option Code
+create_id_refusal v user dir path = behind (found v.rows user dir path) (λ id. first_holding (
     (not (has_file v.rows id), ObjectTypeErr)
+    ∷ (lacks_above v.rows user write_right id, AccessDenied)
     ∷ (is_filed v.rows id, IDExists)
     ∷ []))
 
 -- FPCreateID: the file's id
-unfoldable pub created_id : VolumeState → ℕ → PathValue → Option ℕ
-created_id v dir path = found_id v dir path
+unfoldable pub created_id : VolumeState → ℕ → ℕ → PathValue → Option ℕ
+created_id v user dir path = found_id v user dir path
 
 -- FPCreateID: the file is filed
-abbrev pub create_id_edits : VolumeState → ℕ → PathValue → List Edit
-create_id_edits v dir path = edits_at (found v.rows dir path) (λ id. Files id true ∷ [])
+abbrev pub create_id_edits : VolumeState → ℕ → ℕ → PathValue → List Edit
+create_id_edits v user dir path = edits_at (found v.rows user dir path) (λ id. Files id true ∷ [])
 
 -- FPDeleteID: why it is refused
-unfoldable pub delete_id_refusal : VolumeState → ℕ → Option Code
-delete_id_refusal v id = first_holding (
+unfoldable pub delete_id_refusal : VolumeState → ℕ → ℕ → Option Code
+delete_id_refusal v user id = first_holding (
     (nat_lt id first_id, BadIDErr)
     ∷ (not (is_filed v.rows id), IDNotFound)
+    ∷ (lacks_above v.rows user write_right id, AccessDenied)
     ∷ [])
 
 -- FPDeleteID: the file is not filed any more
@@ -46,12 +49,13 @@ abbrev pub delete_id_edits : ℕ → List Edit
 delete_id_edits id = Files id false ∷ []
 
 -- FPResolveID: why it is refused
-unfoldable pub resolve_id_refusal : VolumeState → ℕ → ℕ → Option Code
-resolve_id_refusal v id bits = first_holding (
+unfoldable pub resolve_id_refusal : VolumeState → ℕ → ℕ → ℕ → Option Code
+resolve_id_refusal v user id bits = first_holding (
     (is_outside file_mask bits, BitmapErr)
     ∷ (nat_lt id first_id, BadIDErr)
     ∷ (not (has_node v.rows id), IDNotFound)
     ∷ (not (has_file v.rows id), ObjectTypeErr)
+    ∷ (lacks_above v.rows user read_right id, AccessDenied)
     ∷ [])
 
 -- FPResolveID: what is told of the file

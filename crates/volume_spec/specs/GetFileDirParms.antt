@@ -11,14 +11,14 @@ use Rattle.volume_spec.specs.Shared.{Opened, behind, done_at, first_or}
 use Rattle.volume_spec.specs.NodeValues.{node_values}
 
 -- why it is refused (this profile)
-unfoldable pub get_file_dir_parms_refusal : VolumeState → ℕ → ℕ → ℕ → PathValue → Option Code
-get_file_dir_parms_refusal v file_bits dir_bits dir path = first_or (
+unfoldable pub get_file_dir_parms_refusal : VolumeState → ℕ → ℕ → ℕ → ℕ → PathValue → Option Code
+get_file_dir_parms_refusal v user file_bits dir_bits dir path = first_or (
     (is_outside file_mask file_bits, BitmapErr)
     ∷ (is_outside dir_mask dir_bits, BitmapErr)
     ∷ [])
-    (behind (found v.rows dir path) (λ _. None))
+    (behind (found v.rows user dir path) (λ _. None))
 
 -- what is told of the node that was found, if one was (AFP Reference, "FPGetFileDirParms")
-unfoldable pub get_file_dir_parms_values : VolumeState → List Opened → ℕ → ℕ → ℕ → PathValue → Option Values
-get_file_dir_parms_values v opens file_bits dir_bits dir path = done_at (found v.rows dir path) None (λ id.
-    option_map (node_values v.rows opens file_bits dir_bits) (row_at v.rows id))
+unfoldable pub get_file_dir_parms_values : VolumeState → ℕ → List Opened → ℕ → ℕ → ℕ → PathValue → Option Values
+get_file_dir_parms_values v user opens file_bits dir_bits dir path = done_at (found v.rows user dir path) None (λ id.
+    option_map (node_values v.rows user opens file_bits dir_bits) (row_at v.rows id))

@@ -19,8 +19,9 @@ use Rattle.volume_spec.specs.CreateFile.{create_file_refusal, create_file_effect
 use Rattle.volume_spec.specs.Delete.{delete_refusal, delete_effect}
 use Rattle.volume_spec.specs.Rename.{rename_refusal, rename_effect}
 use Rattle.volume_spec.specs.MoveAndRename.{move_refusal, move_effect}
-use Rattle.volume_spec.specs.SetFileDirParms.{Settings, has_sized_finder, with_node_set, set_file_parms_refusal, set_dir_parms_refusal, set_file_dir_parms_refusal, set_parms_effect}
+use Rattle.volume_spec.specs.SetFileDirParms.{Settings, are_fit_settings, with_node_set, set_file_parms_refusal, set_dir_parms_refusal, set_file_dir_parms_refusal, set_parms_effect}
 use Rattle.volume_spec.specs.SetVolParms.{set_vol_parms_effect}
+use Rattle.volume_spec.specs.Rights.{is_closed, is_owner, lacks}
 
 -- no way to the root is longer than there are rows, so the bound of soundness takes none away
 abbrev pub NeedsNoMore : Type 0
@@ -33,32 +34,32 @@ FreshIsSound = (name : List ℕ) (now : ℕ) → name_fault name ≡ None → Is
 -- each call that is not refused keeps a sound volume sound
 
 abbrev pub CreateDirKeepsSound : Type 0
-CreateDirKeepsSound = (v : VolumeState) (now dir : ℕ) (path : PathValue) → is_named_path path ≡ true → create_dir_refusal v dir path ≡ None → IsSoundVolume v → IsSoundVolume (create_dir_effect v now dir path)
+CreateDirKeepsSound = (v : VolumeState) (user : ℕ) (now dir : ℕ) (path : PathValue) → is_named_path path ≡ true → create_dir_refusal v user dir path ≡ None → IsSoundVolume v → IsSoundVolume (create_dir_effect v user now dir path)
 
 abbrev pub CreateFileKeepsSound : Type 0
-CreateFileKeepsSound = (v : VolumeState) (opens : List Opened) (hard : Bool) (now dir : ℕ) (path : PathValue) → is_named_path path ≡ true → create_file_refusal v opens hard dir path ≡ None → IsSoundVolume v → IsSoundVolume (create_file_effect v now dir path)
+CreateFileKeepsSound = (v : VolumeState) (user : ℕ) (opens : List Opened) (hard : Bool) (now dir : ℕ) (path : PathValue) → is_named_path path ≡ true → create_file_refusal v user opens hard dir path ≡ None → IsSoundVolume v → IsSoundVolume (create_file_effect v user now dir path)
 
 abbrev pub DeleteKeepsSound : Type 0
-DeleteKeepsSound = (v : VolumeState) (opens : List Opened) (now dir : ℕ) (path : PathValue) → delete_refusal v opens dir path ≡ None → IsSoundVolume v → IsSoundVolume (delete_effect v now dir path)
+DeleteKeepsSound = (v : VolumeState) (user : ℕ) (opens : List Opened) (now dir : ℕ) (path : PathValue) → delete_refusal v user opens dir path ≡ None → IsSoundVolume v → IsSoundVolume (delete_effect v user now dir path)
 
 abbrev pub RenameKeepsSound : Type 0
-RenameKeepsSound = (v : VolumeState) (now dir : ℕ) (path new : PathValue) → is_named_path new ≡ true → rename_refusal v dir path new ≡ None → IsSoundVolume v → IsSoundVolume (rename_effect v now dir path new)
+RenameKeepsSound = (v : VolumeState) (user : ℕ) (now dir : ℕ) (path new : PathValue) → is_named_path new ≡ true → rename_refusal v user dir path new ≡ None → IsSoundVolume v → IsSoundVolume (rename_effect v user now dir path new)
 
 abbrev pub MoveKeepsSound : Type 0
-MoveKeepsSound = (v : VolumeState) (now dir : ℕ) (path : PathValue) (to_dir : ℕ) (to_path new : PathValue) → is_named_path new ≡ true → move_refusal v dir path to_dir to_path new ≡ None → IsSoundVolume v → IsSoundVolume (move_effect v now dir path to_dir to_path new)
+MoveKeepsSound = (v : VolumeState) (user : ℕ) (now dir : ℕ) (path : PathValue) (to_dir : ℕ) (to_path new : PathValue) → is_named_path new ≡ true → move_refusal v user dir path to_dir to_path new ≡ None → IsSoundVolume v → IsSoundVolume (move_effect v user now dir path to_dir to_path new)
 
--- whatever is set of a node, if Finder info has its size
+-- whatever is set of a node, if Finder info has its size and rights are three bits each
 abbrev pub SettingsKeepSound : Type 0
-SettingsKeepSound = (v : VolumeState) (now id : ℕ) (s : Settings) → has_sized_finder s ≡ true → IsSoundVolume v → IsSoundVolume (with_node_set now id s v)
+SettingsKeepSound = (v : VolumeState) (now id : ℕ) (s : Settings) → are_fit_settings s ≡ true → IsSoundVolume v → IsSoundVolume (with_node_set now id s v)
 
 abbrev pub SetFileParmsKeepsSound : Type 0
-SetFileParmsKeepsSound = (v : VolumeState) (now dir bits : ℕ) (path : PathValue) (tail : List ℕ) → set_file_parms_refusal v dir bits path tail ≡ None → IsSoundVolume v → IsSoundVolume (set_parms_effect v now dir bits path tail)
+SetFileParmsKeepsSound = (v : VolumeState) (user : ℕ) (now dir bits : ℕ) (path : PathValue) (tail : List ℕ) → set_file_parms_refusal v user dir bits path tail ≡ None → IsSoundVolume v → IsSoundVolume (set_parms_effect v user now dir bits path tail)
 
 abbrev pub SetDirParmsKeepsSound : Type 0
-SetDirParmsKeepsSound = (v : VolumeState) (now dir bits : ℕ) (path : PathValue) (tail : List ℕ) → set_dir_parms_refusal v dir bits path tail ≡ None → IsSoundVolume v → IsSoundVolume (set_parms_effect v now dir bits path tail)
+SetDirParmsKeepsSound = (v : VolumeState) (user : ℕ) (now dir bits : ℕ) (path : PathValue) (tail : List ℕ) → set_dir_parms_refusal v user dir bits path tail ≡ None → IsSoundVolume v → IsSoundVolume (set_parms_effect v user now dir bits path tail)
 
 abbrev pub SetFileDirParmsKeepsSound : Type 0
-SetFileDirParmsKeepsSound = (v : VolumeState) (now dir bits : ℕ) (path : PathValue) (tail : List ℕ) → set_file_dir_parms_refusal v dir bits path tail ≡ None → IsSoundVolume v → IsSoundVolume (set_parms_effect v now dir bits path tail)
+SetFileDirParmsKeepsSound = (v : VolumeState) (user : ℕ) (now dir bits : ℕ) (path : PathValue) (tail : List ℕ) → set_file_dir_parms_refusal v user dir bits path tail ≡ None → IsSoundVolume v → IsSoundVolume (set_parms_effect v user now dir bits path tail)
 
 abbrev pub SetVolParmsKeepsSound : Type 0
 SetVolParmsKeepsSound = (v : VolumeState) (now : ℕ) (tail : List ℕ) → IsSoundVolume v → IsSoundVolume (set_vol_parms_effect v now tail)
@@ -92,17 +93,17 @@ StepsKeepSound = (v : VolumeState) (steps : List TreeStep) → list_all (λ (ste
 
 -- each call that is not refused keeps the numbers of a sound volume in their ranges, and so do calls one after another
 abbrev pub CallsKeepTyped : Type 0
-CallsKeepTyped = (v : VolumeState) (step : TreeStep) → is_typed_step step ≡ true → is_named_call step.call ≡ true → tree_refusal v step.opens step.call ≡ None → IsSoundVolume v → is_typed_volume v ≡ true → is_typed_volume (tree_effect v step.now step.call) ≡ true
+CallsKeepTyped = (v : VolumeState) (step : TreeStep) → is_typed_step step ≡ true → is_named_call step.call ≡ true → tree_refusal v step.user step.opens step.call ≡ None → IsSoundVolume v → is_typed_volume v ≡ true → is_typed_volume (tree_effect v step.user step.now step.call) ≡ true
 
 abbrev pub StepsKeepTyped : Type 0
 StepsKeepTyped = (v : VolumeState) (steps : List TreeStep) → list_all is_typed_step steps ≡ true → list_all (λ (step : TreeStep). is_named_call step.call) steps ≡ true → IsSoundVolume v → is_typed_volume v ≡ true → is_typed_volume (after_steps v steps) ≡ true
 
 -- a call lets the volume's name be; one that is not refused lets each file be of which a fork is open
 abbrev pub NameStays : Type 0
-NameStays = (v : VolumeState) (step : TreeStep) → (tree_effect v step.now step.call).name ≡ v.name
+NameStays = (v : VolumeState) (step : TreeStep) → (tree_effect v step.user step.now step.call).name ≡ v.name
 
 abbrev pub OpenFilesStay : Type 0
-OpenFilesStay = (v : VolumeState) (step : TreeStep) (id : ℕ) → tree_refusal v step.opens step.call ≡ None → is_busy step.opens id ≡ true → has_file v.rows id ≡ true → has_file (tree_effect v step.now step.call).rows id ≡ true
+OpenFilesStay = (v : VolumeState) (step : TreeStep) (id : ℕ) → tree_refusal v step.user step.opens step.call ≡ None → is_busy step.opens id ≡ true → has_file v.rows id ≡ true → has_file (tree_effect v step.user step.now step.call).rows id ≡ true
 
 -- a volume that nobody has used, and one with another row in the place of one, have their numbers in their ranges
 abbrev pub FreshIsTyped : Type 0
@@ -121,7 +122,7 @@ NeverDrawnAgain = (v : VolumeState) (steps : List TreeStep) (id : ℕ) → id < 
 
 -- where a walk leads there is a node
 abbrev pub WalksEndAtNodes : Type 0
-WalksEndAtNodes = (v : VolumeState) (dir id : ℕ) (path : PathValue) → IsSoundVolume v → found v.rows dir path ≡ Ok id → has_node v.rows id ≡ true
+WalksEndAtNodes = (v : VolumeState) (user : ℕ) (dir id : ℕ) (path : PathValue) → IsSoundVolume v → found v.rows user dir path ≡ Ok id → has_node v.rows id ≡ true
 
 -- a row may take the place of one with the same id, parent, kind and name, if it is formed and the forks' bytes stay within the limit
 abbrev pub PutKeepsSound : Type 0
@@ -172,7 +173,7 @@ PathsAreNamed = (bytes : List ℕ) (path : PathValue) → are_bytes bytes ≡ tr
 abbrev pub ExchangeKeepsSound : Type 0
 ExchangeKeepsSound = (v : VolumeState) (a b : ℕ) (s t : Row) → (a == b) ≡ false → row_at v.rows a ≡ Some s → row_at v.rows b ≡ Some t → s.dir ≡ false → t.dir ≡ false → IsSoundVolume v → IsSoundVolume (exchanged a b s t v)
 
--- What is asked of places, ids, kinds, names and attributes is the same of rows with no bytes in their forks.
+-- What is asked of places, ids, kinds, names, attributes, owners and rights is the same of rows with no bytes in their forks.
 abbrev pub FindsBare : Type 0
 FindsBare = (rows : List Row) (id : ℕ) → row_at (map bare rows) id ≡ option_map bare (row_at rows id)
 
@@ -186,7 +187,16 @@ abbrev pub LongNamesBare : Type 0
 LongNamesBare = (rows : List Row) (dir : ℕ) (element : List ℕ) → child_by_long_name (map bare rows) dir element ≡ child_by_long_name rows dir element
 
 abbrev pub WalksBare : Type 0
-WalksBare = (rows : List Row) (dir : ℕ) (path : PathValue) → found (map bare rows) dir path ≡ found rows dir path
+WalksBare = (rows : List Row) (user : ℕ) (dir : ℕ) (path : PathValue) → found (map bare rows) user dir path ≡ found rows user dir path
+
+abbrev pub ClosedBare : Type 0
+ClosedBare = (rows : List Row) (user here : ℕ) → is_closed (map bare rows) user here ≡ is_closed rows user here
+
+abbrev pub LacksBare : Type 0
+LacksBare = (rows : List Row) (user right id : ℕ) → lacks (map bare rows) user right id ≡ lacks rows user right id
+
+abbrev pub OwnersBare : Type 0
+OwnersBare = (rows : List Row) (user id : ℕ) → is_owner (map bare rows) user id ≡ is_owner rows user id
 
 abbrev pub ListsBare : Type 0
 ListsBare = (rows : List Row) (dir : ℕ) → listed (map bare rows) dir ≡ map bare (listed rows dir)

@@ -1,5 +1,6 @@
 pub mod VolumeState
 pub mod Order
+pub mod Rights
 pub mod SoundVolume
 pub mod TypedVolume
 pub mod Walk
@@ -24,6 +25,7 @@ pub mod Enumerate
 pub mod ListLaws
 pub mod ValueLaws
 pub mod WorkedExamples
+pub mod RightsExamples
 pub mod ForkLaws
 pub mod Laws
 pub mod Listing

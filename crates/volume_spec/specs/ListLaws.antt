@@ -31,11 +31,11 @@ EntriesAreAsked = (rows : List Row) (opens : List Opened) (asked : ListAsked) (d
 
 -- where a list is not refused its entries fit; and its directory is found, with one entry at least
 abbrev pub EntriesFit : Type 0
-EntriesFit = (v : VolumeState) (opens : List Opened) (asked : ListAsked) (dir id : ℕ) (path : PathValue) → enumerate_refusal v opens asked dir path ≡ None → found v.rows dir path ≡ Ok id → fits_reply v.rows opens asked (entries v.rows opens asked id) ≡ true
+EntriesFit = (v : VolumeState) (opens : List Opened) (asked : ListAsked) (dir id : ℕ) (path : PathValue) → enumerate_refusal v opens asked dir path ≡ None → found v.rows asked.user dir path ≡ Ok id → fits_reply v.rows opens asked (entries v.rows opens asked id) ≡ true
 
 abbrev pub ListIsNeverEmpty : Type 0
 ListIsNeverEmpty = (v : VolumeState) (opens : List Opened) (asked : ListAsked) (dir : ℕ) (path : PathValue) → enumerate_refusal v opens asked dir path ≡ None
-    → (id : ℕ) × (found v.rows dir path ≡ Ok id) × (0 < length (entries v.rows opens asked id))
+    → (id : ℕ) × (found v.rows asked.user dir path ≡ Ok id) × (0 < length (entries v.rows opens asked id))
 
 -- what fits a reply fits it with fewer entries too
 abbrev pub FewerFit : Type 0

@@ -1,12 +1,13 @@
--- What is told of a file and of a directory (AFP Reference, "File Bitmap", "Directory Bitmap"; the fixed values are this profile's).
-use Rattle.std.specs.Prelude.{ℕ, pos, ◌==◌, ◌&&◌, Bool, true, false, not, List, [], length, min, replicate, bit_or, if◌then◌else◌}
+-- What is told of a file and of a directory (AFP Reference, "File Bitmap", "Directory Bitmap", "Access rights").
+use Rattle.std.specs.Prelude.{ℕ, pos, ◌+◌, ◌*◌, ◌==◌, ◌&&◌, Bool, true, false, not, List, [], length, min, replicate, bit_or, if◌then◌else◌}
 use Rattle.std.specs.List.{list_any}
 use Rattle.afp_bitmap.specs.declared.file.FileValues.{FileValues}
 use Rattle.afp_bitmap.specs.declared.directory.DirValues.{DirValues}
 use Rattle.afp_bitmap.specs.declared.params.Values.{Values}
 use Rattle.afp_bitmap.specs.declared.params.Values.TheVariants.{File, Dir}
 use Rattle.afp_names.specs.LongName.{long_name_of}
-use Rattle.volume_spec.specs.VolumeState.{Row, finder_size}
+use Rattle.volume_spec.specs.VolumeState.{Row, Privileges, finder_size}
+use Rattle.volume_spec.specs.Rights.{rights_of}
 use Rattle.volume_spec.specs.Shared.{Opened}
 use Rattle.volume_spec.specs.Listing.{children}
 use Rattle.volume_spec.specs.Parms.{asked_or}
@@ -49,19 +50,20 @@ file_values opens bits row = record {
 abbrev pub most_offspring : ℕ
 most_offspring = 65535
 
--- the owner and the group of each directory, and its access rights: all rights for all (this profile)
-abbrev pub fixed_owner : ℕ
-fixed_owner = 500
+-- the access rights of a directory as a user is told them: the user's own, with the bit of the owner, then those of everyone, of the group
+-- and of the owner (AFP Reference, "Access rights")
+abbrev pub owner_bit : ℕ
+owner_bit = 0x80
 
-abbrev pub fixed_group : ℕ
-fixed_group = 500
+abbrev pub own_rights : Privileges → ℕ → ℕ
+own_rights p user = rights_of p user + (if p.owner == user then owner_bit else 0)
 
-abbrev pub all_rights : ℕ
-all_rights = 0x87070707
+unfoldable pub told_rights : Privileges → ℕ → ℕ
+told_rights p user = 0x1000000 * own_rights p user + 0x10000 * p.everyone_rights + 0x100 * p.group_rights + p.owner_rights
 
--- what is told of a directory: each value whose bit is asked, by its bit (AFP Reference, "Directory Bitmap")
-unfoldable pub dir_values : List Row → ℕ → Row → DirValues
-dir_values rows bits row = record {
+-- what a user is told of a directory: each value whose bit is asked, by its bit (AFP Reference, "Directory Bitmap")
+unfoldable pub dir_values : List Row → ℕ → ℕ → Row → DirValues
+dir_values rows user bits row = record {
   attributes = asked_or bits 0 0 row.attributes;
   parent = asked_or bits 1 0 row.parent;
   created = asked_or bits 2 (pos 0) row.created;
@@ -71,9 +73,9 @@ dir_values rows bits row = record {
   long_name = asked_or bits 6 [] (long_name_of row.name row.id);
   id = asked_or bits 8 0 row.id;
   offspring = asked_or bits 9 0 (min most_offspring (length (children rows row.id)));
-  owner = asked_or bits 10 0 fixed_owner;
-  group = asked_or bits 11 0 fixed_group;
-  rights = asked_or bits 12 0 all_rights;
+  owner = asked_or bits 10 0 row.privileges.owner;
+  group = asked_or bits 11 0 row.privileges.group;
+  rights = asked_or bits 12 0 (told_rights row.privileges user);
   utf8_name = asked_or bits 13 [] row.name;
 }
 
@@ -81,7 +83,7 @@ dir_values rows bits row = record {
 abbrev pub bits_of : ℕ → ℕ → Row → ℕ
 bits_of file_bits dir_bits row = if row.dir then dir_bits else file_bits
 
--- what is told of a node of rows, by its kind's bits (AFP Reference, "FPGetFileDirParms")
-unfoldable pub node_values : List Row → List Opened → ℕ → ℕ → Row → Values
-node_values rows opens file_bits dir_bits row =
-    if row.dir then Dir (dir_values rows dir_bits row) else File (file_values opens file_bits row)
+-- what a user is told of a node of rows, by its kind's bits (AFP Reference, "FPGetFileDirParms")
+unfoldable pub node_values : List Row → ℕ → List Opened → ℕ → ℕ → Row → Values
+node_values rows user opens file_bits dir_bits row =
+    if row.dir then Dir (dir_values rows user dir_bits row) else File (file_values opens file_bits row)

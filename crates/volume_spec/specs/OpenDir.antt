@@ -9,9 +9,9 @@ use Rattle.volume_spec.specs.Walk.{found, has_directory}
 use Rattle.volume_spec.specs.Shared.{behind, found_id}
 
 -- why it is refused (this profile)
-unfoldable pub open_dir_refusal : VolumeState → ℕ → PathValue → Option Code
-open_dir_refusal v dir path = behind (found v.rows dir path) (λ id. first_holding ((not (has_directory v.rows id), ObjectTypeErr) ∷ []))
+unfoldable pub open_dir_refusal : VolumeState → ℕ → ℕ → PathValue → Option Code
+open_dir_refusal v user dir path = behind (found v.rows user dir path) (λ id. first_holding ((not (has_directory v.rows id), ObjectTypeErr) ∷ []))
 
 -- the id that is told: that of the directory that was found, if one was (AFP Reference, "FPOpenDir")
-unfoldable pub open_dir_id : VolumeState → ℕ → PathValue → Option ℕ
-open_dir_id v dir path = found_id v dir path
+unfoldable pub open_dir_id : VolumeState → ℕ → ℕ → PathValue → Option ℕ
+open_dir_id v user dir path = found_id v user dir path

@@ -4,7 +4,8 @@ use Rattle.std.specs.Prelude.{ℕ, ◌==◌, Bool, not, ◌&&◌, ◌||◌, List
 use Rattle.std.specs.List.{list_any}
 use Rattle.afp_base.specs.declared.code.Code.{Code}
 use Rattle.afp_names.specs.Path.{PathValue}
-use Rattle.volume_spec.specs.VolumeState.{Row, VolumeState, root_parent}
+use Rattle.volume_spec.specs.Rights.{lacks}
+use Rattle.volume_spec.specs.VolumeState.{Row, VolumeState, root_id, root_parent}
 use Rattle.volume_spec.specs.SoundVolume.{most_nodes, last_next_id}
 use Rattle.volume_spec.specs.Walk.{Place, found, row_at, parent_at}
 use Rattle.volume_spec.specs.Edits.{changed_at, children_changed, with_new}
@@ -24,14 +25,20 @@ abbrev pub done_at : {A B : Type 0} → Result A Code → B → (A → B) → B
 done_at (Ok at_end) old does = does at_end
 done_at (Err code) old does = old
 
--- the id of the node to which a path leads from a directory, if it leads to one
-abbrev pub found_id : VolumeState → ℕ → PathValue → Option ℕ
-found_id v dir path = done_at (found v.rows dir path) None Some
+-- the id of the node to which a path leads a user from a directory, if it leads to one
+abbrev pub found_id : VolumeState → ℕ → ℕ → PathValue → Option ℕ
+found_id v user dir path = done_at (found v.rows user dir path) None Some
 
 -- the code of the first of these rows that holds, or what is refused behind them
 abbrev pub first_or : List (Bool × Code) → Option Code → Option Code
 first_or [] rest = rest
 first_or (row ∷ rows) rest = if row.0 then Some row.1 else first_or rows rest
+
+-- what is refused first, or else what is refused behind it, if something is
+abbrev pub refused_else : Option Code → Option Code → Option Code
+refused_else None first = first
+refused_else (Some code) None = Some code
+refused_else (Some code) (Some other) = Some other
 
 -- attributes by bit (AFP Reference, "File attributes")
 abbrev pub write_inhibit : ℕ
@@ -62,10 +69,14 @@ has_no_room v = nat_le most_nodes (length v.rows) || has_no_ids v
 abbrev pub directory_of : List Row → ℕ → ℕ
 directory_of rows id = unwrap_or (parent_at rows id) root_parent
 
+-- whether a user lacks a right in the directory of a node; the root's is the root here
+abbrev pub lacks_above : List Row → ℕ → ℕ → ℕ → Bool
+lacks_above rows user right id = lacks rows user right (if id == root_id then root_id else directory_of rows id)
+
 -- the name of a node
 abbrev pub name_of : List Row → ℕ → List ℕ
 name_of rows id = unwrap_or (option_map (λ (row : Row). row.name) (row_at rows id)) []
 
--- a volume with a new node at a place
-abbrev pub created : Bool → ℕ → VolumeState → Place → VolumeState
-created dir now v place = changed_at now (children_changed now place.dir (with_new dir place.dir place.name now v))
+-- a volume with a new node at a place, made by a user
+abbrev pub created : Bool → ℕ → ℕ → VolumeState → Place → VolumeState
+created dir user now v place = changed_at now (children_changed now place.dir (with_new dir user place.dir place.name now v))

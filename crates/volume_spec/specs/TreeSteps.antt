@@ -2,7 +2,7 @@
 use Rattle.std.specs.Prelude.{ℕ, pos, Bool, true, ◌&&◌, List, [], ◌∷◌, Option, Some, None}
 use Rattle.afp_base.specs.declared.code.Code.{Code}
 use Rattle.afp_names.specs.Path.{PathValue}
-use Rattle.volume_spec.specs.TypedVolume.{are_bytes, is_date}
+use Rattle.volume_spec.specs.TypedVolume.{are_bytes, is_date, is_long}
 use Rattle.volume_spec.specs.VolumeState.{VolumeState}
 use Rattle.volume_spec.specs.Walk.{is_named_path}
 use Rattle.volume_spec.specs.Shared.{Opened}
@@ -26,33 +26,34 @@ pub data TreeCall : Type 0 where
   SetFileDirParms : ℕ → ℕ → PathValue → List ℕ → TreeCall
   SetVolParms : ℕ → List ℕ → TreeCall
 
--- a call at a moment, with the forks that are open then
+-- a call of a user at a moment, with the forks that are open then
 pub record TreeStep : Type 0 where
+  pub user : ℕ
   pub call : TreeCall
   pub now : ℕ
   pub opens : List Opened
 
-abbrev pub tree_refusal : VolumeState → List Opened → TreeCall → Option Code
-tree_refusal v opens (CreateDir dir path) = create_dir_refusal v dir path
-tree_refusal v opens (CreateFile hard dir path) = create_file_refusal v opens hard dir path
-tree_refusal v opens (Delete dir path) = delete_refusal v opens dir path
-tree_refusal v opens (Rename dir path new) = rename_refusal v dir path new
-tree_refusal v opens (MoveAndRename dir path to_dir to_path new) = move_refusal v dir path to_dir to_path new
-tree_refusal v opens (SetFileParms dir bits path tail) = set_file_parms_refusal v dir bits path tail
-tree_refusal v opens (SetDirParms dir bits path tail) = set_dir_parms_refusal v dir bits path tail
-tree_refusal v opens (SetFileDirParms dir bits path tail) = set_file_dir_parms_refusal v dir bits path tail
-tree_refusal v opens (SetVolParms bits tail) = set_vol_parms_refusal bits tail
+abbrev pub tree_refusal : VolumeState → ℕ → List Opened → TreeCall → Option Code
+tree_refusal v user opens (CreateDir dir path) = create_dir_refusal v user dir path
+tree_refusal v user opens (CreateFile hard dir path) = create_file_refusal v user opens hard dir path
+tree_refusal v user opens (Delete dir path) = delete_refusal v user opens dir path
+tree_refusal v user opens (Rename dir path new) = rename_refusal v user dir path new
+tree_refusal v user opens (MoveAndRename dir path to_dir to_path new) = move_refusal v user dir path to_dir to_path new
+tree_refusal v user opens (SetFileParms dir bits path tail) = set_file_parms_refusal v user dir bits path tail
+tree_refusal v user opens (SetDirParms dir bits path tail) = set_dir_parms_refusal v user dir bits path tail
+tree_refusal v user opens (SetFileDirParms dir bits path tail) = set_file_dir_parms_refusal v user dir bits path tail
+tree_refusal v user opens (SetVolParms bits tail) = set_vol_parms_refusal bits tail
 
-abbrev pub tree_effect : VolumeState → ℕ → TreeCall → VolumeState
-tree_effect v now (CreateDir dir path) = create_dir_effect v now dir path
-tree_effect v now (CreateFile hard dir path) = create_file_effect v now dir path
-tree_effect v now (Delete dir path) = delete_effect v now dir path
-tree_effect v now (Rename dir path new) = rename_effect v now dir path new
-tree_effect v now (MoveAndRename dir path to_dir to_path new) = move_effect v now dir path to_dir to_path new
-tree_effect v now (SetFileParms dir bits path tail) = set_parms_effect v now dir bits path tail
-tree_effect v now (SetDirParms dir bits path tail) = set_parms_effect v now dir bits path tail
-tree_effect v now (SetFileDirParms dir bits path tail) = set_parms_effect v now dir bits path tail
-tree_effect v now (SetVolParms bits tail) = set_vol_parms_effect v now tail
+abbrev pub tree_effect : VolumeState → ℕ → ℕ → TreeCall → VolumeState
+tree_effect v user now (CreateDir dir path) = create_dir_effect v user now dir path
+tree_effect v user now (CreateFile hard dir path) = create_file_effect v user now dir path
+tree_effect v user now (Delete dir path) = delete_effect v user now dir path
+tree_effect v user now (Rename dir path new) = rename_effect v user now dir path new
+tree_effect v user now (MoveAndRename dir path to_dir to_path new) = move_effect v user now dir path to_dir to_path new
+tree_effect v user now (SetFileParms dir bits path tail) = set_parms_effect v user now dir bits path tail
+tree_effect v user now (SetDirParms dir bits path tail) = set_parms_effect v user now dir bits path tail
+tree_effect v user now (SetFileDirParms dir bits path tail) = set_parms_effect v user now dir bits path tail
+tree_effect v user now (SetVolParms bits tail) = set_vol_parms_effect v now tail
 
 -- whether the paths of a call name nodes by names
 abbrev pub is_named_call : TreeCall → Bool
@@ -79,7 +80,7 @@ is_typed_call (SetFileDirParms dir bits path tail) = are_bytes tail
 is_typed_call (SetVolParms bits tail) = are_bytes tail
 
 abbrev pub is_typed_step : TreeStep → Bool
-is_typed_step step = is_date (pos step.now) && is_typed_call step.call
+is_typed_step step = is_date (pos step.now) && (is_long step.user && is_typed_call step.call)
 
 -- a volume after a call, which changes nothing where it is refused
 abbrev pub unless_refused : Option Code → VolumeState → VolumeState → VolumeState
@@ -87,7 +88,7 @@ unless_refused (Some code) old new = old
 unless_refused None old new = new
 
 abbrev pub after_step : VolumeState → TreeStep → VolumeState
-after_step v step = unless_refused (tree_refusal v step.opens step.call) v (tree_effect v step.now step.call)
+after_step v step = unless_refused (tree_refusal v step.user step.opens step.call) v (tree_effect v step.user step.now step.call)
 
 abbrev pub after_steps : VolumeState → List TreeStep → VolumeState
 after_steps v [] = v

@@ -3,7 +3,7 @@ use Rattle.std.specs.Prelude.{ℕ, ◌==◌, ◌&&◌, length, Bool, true, List,
 use Rattle.afp_base.specs.declared.code.Code.{Code}
 use Rattle.afp_names.specs.Path.{PathValue}
 use Rattle.volume_spec.specs.Appls.{add_appl_edits, add_appl_refusal, remove_appl_edits, remove_appl_refusal}
-use Rattle.volume_spec.specs.Comments.{add_comment_edits, add_comment_refusal, comment_there_refusal, remove_comment_edits}
+use Rattle.volume_spec.specs.Comments.{add_comment_edits, add_comment_refusal, remove_comment_edits, remove_comment_refusal}
 use Rattle.volume_spec.specs.CopyFile.{Source, copy_file_edits, copy_file_refusal}
 use Rattle.volume_spec.specs.CreateDir.{create_dir_edits, create_dir_refusal}
 use Rattle.volume_spec.specs.CreateFile.{create_file_edits, create_file_refusal}
@@ -42,51 +42,51 @@ pub data VolumeCall : Type 0 where
   AddComment : ℕ → PathValue → List ℕ → VolumeCall
   RemoveComment : ℕ → PathValue → VolumeCall
 
--- why a call is refused, where these forks are open
-abbrev pub volume_refusal : VolumeState → List Opened → VolumeCall → Option Code
-volume_refusal v opens (CreateDir dir path) = create_dir_refusal v dir path
-volume_refusal v opens (CreateFile hard dir path) = create_file_refusal v opens hard dir path
-volume_refusal v opens (Delete dir path) = delete_refusal v opens dir path
-volume_refusal v opens (Rename dir path new) = rename_refusal v dir path new
-volume_refusal v opens (MoveAndRename dir path to_dir to_path new) = move_refusal v dir path to_dir to_path new
-volume_refusal v opens (SetFileParms dir bits path tail) = set_file_parms_refusal v dir bits path tail
-volume_refusal v opens (SetDirParms dir bits path tail) = set_dir_parms_refusal v dir bits path tail
-volume_refusal v opens (SetFileDirParms dir bits path tail) = set_file_dir_parms_refusal v dir bits path tail
-volume_refusal v opens (SetVolParms bits tail) = set_vol_parms_refusal bits tail
-volume_refusal v opens (CopyFile source dir path new) = copy_file_refusal v source dir path new
-volume_refusal v opens (ExchangeFiles dir path second_dir second_path) = exchange_files_refusal v dir path second_dir second_path
-volume_refusal v opens (CreateID dir path) = create_id_refusal v dir path
-volume_refusal v opens (DeleteID id) = delete_id_refusal v id
-volume_refusal v opens (AddIcon icon) = add_icon_refusal v icon
-volume_refusal v opens (AddAPPL dir creator tag path) = add_appl_refusal v dir creator path
-volume_refusal v opens (RemoveAPPL dir creator path) = remove_appl_refusal v dir creator path
-volume_refusal v opens (AddComment dir path text) = add_comment_refusal v dir path
-volume_refusal v opens (RemoveComment dir path) = comment_there_refusal v dir path
+-- why a call of a user is refused, where these forks are open
+abbrev pub volume_refusal : VolumeState → ℕ → List Opened → VolumeCall → Option Code
+volume_refusal v user opens (CreateDir dir path) = create_dir_refusal v user dir path
+volume_refusal v user opens (CreateFile hard dir path) = create_file_refusal v user opens hard dir path
+volume_refusal v user opens (Delete dir path) = delete_refusal v user opens dir path
+volume_refusal v user opens (Rename dir path new) = rename_refusal v user dir path new
+volume_refusal v user opens (MoveAndRename dir path to_dir to_path new) = move_refusal v user dir path to_dir to_path new
+volume_refusal v user opens (SetFileParms dir bits path tail) = set_file_parms_refusal v user dir bits path tail
+volume_refusal v user opens (SetDirParms dir bits path tail) = set_dir_parms_refusal v user dir bits path tail
+volume_refusal v user opens (SetFileDirParms dir bits path tail) = set_file_dir_parms_refusal v user dir bits path tail
+volume_refusal v user opens (SetVolParms bits tail) = set_vol_parms_refusal bits tail
+volume_refusal v user opens (CopyFile source dir path new) = copy_file_refusal v user source dir path new
+volume_refusal v user opens (ExchangeFiles dir path second_dir second_path) = exchange_files_refusal v user dir path second_dir second_path
+volume_refusal v user opens (CreateID dir path) = create_id_refusal v user dir path
+volume_refusal v user opens (DeleteID id) = delete_id_refusal v user id
+volume_refusal v user opens (AddIcon icon) = add_icon_refusal v icon
+volume_refusal v user opens (AddAPPL dir creator tag path) = add_appl_refusal v user dir creator path
+volume_refusal v user opens (RemoveAPPL dir creator path) = remove_appl_refusal v user dir creator path
+volume_refusal v user opens (AddComment dir path text) = add_comment_refusal v user dir path
+volume_refusal v user opens (RemoveComment dir path) = remove_comment_refusal v user dir path
 
 -- the settings of a tail for the node that was found
-abbrev pub sets_parms : VolumeState → ℕ → ℕ → PathValue → List ℕ → List Edit
-sets_parms v dir bits path tail = edits_at (found v.rows dir path) (λ id. Sets id (settings_in bits tail) ∷ [])
+abbrev pub sets_parms : VolumeState → ℕ → ℕ → ℕ → PathValue → List ℕ → List Edit
+sets_parms v user dir bits path tail = edits_at (found v.rows user dir path) (λ id. Sets id (settings_in bits tail) ∷ [])
 
--- what a call does that is not refused
-unfoldable pub call_edits : VolumeState → ℕ → VolumeCall → List Edit
-call_edits v now (CreateDir dir path) = create_dir_edits v now dir path
-call_edits v now (CreateFile hard dir path) = create_file_edits v now dir path
-call_edits v now (Delete dir path) = delete_edits v now dir path
-call_edits v now (Rename dir path new) = rename_edits v now dir path new
-call_edits v now (MoveAndRename dir path to_dir to_path new) = move_edits v now dir path to_dir to_path new
-call_edits v now (SetFileParms dir bits path tail) = sets_parms v dir bits path tail
-call_edits v now (SetDirParms dir bits path tail) = sets_parms v dir bits path tail
-call_edits v now (SetFileDirParms dir bits path tail) = sets_parms v dir bits path tail
-call_edits v now (SetVolParms bits tail) = set_vol_parms_edits tail
-call_edits v now (CopyFile source dir path new) = copy_file_edits v now source dir path new
-call_edits v now (ExchangeFiles dir path second_dir second_path) = exchange_files_edits v dir path second_dir second_path
-call_edits v now (CreateID dir path) = create_id_edits v dir path
-call_edits v now (DeleteID id) = delete_id_edits id
-call_edits v now (AddIcon icon) = add_icon_edits icon
-call_edits v now (AddAPPL dir creator tag path) = add_appl_edits v dir creator tag path
-call_edits v now (RemoveAPPL dir creator path) = remove_appl_edits v dir creator path
-call_edits v now (AddComment dir path text) = add_comment_edits v dir path text
-call_edits v now (RemoveComment dir path) = remove_comment_edits v dir path
+-- what a call of a user does that is not refused
+unfoldable pub call_edits : VolumeState → ℕ → ℕ → VolumeCall → List Edit
+call_edits v user now (CreateDir dir path) = create_dir_edits v user now dir path
+call_edits v user now (CreateFile hard dir path) = create_file_edits v user now dir path
+call_edits v user now (Delete dir path) = delete_edits v user now dir path
+call_edits v user now (Rename dir path new) = rename_edits v user now dir path new
+call_edits v user now (MoveAndRename dir path to_dir to_path new) = move_edits v user now dir path to_dir to_path new
+call_edits v user now (SetFileParms dir bits path tail) = sets_parms v user dir bits path tail
+call_edits v user now (SetDirParms dir bits path tail) = sets_parms v user dir bits path tail
+call_edits v user now (SetFileDirParms dir bits path tail) = sets_parms v user dir bits path tail
+call_edits v user now (SetVolParms bits tail) = set_vol_parms_edits tail
+call_edits v user now (CopyFile source dir path new) = copy_file_edits v user now source dir path new
+call_edits v user now (ExchangeFiles dir path second_dir second_path) = exchange_files_edits v user dir path second_dir second_path
+call_edits v user now (CreateID dir path) = create_id_edits v user dir path
+call_edits v user now (DeleteID id) = delete_id_edits id
+call_edits v user now (AddIcon icon) = add_icon_edits icon
+call_edits v user now (AddAPPL dir creator tag path) = add_appl_edits v user dir creator tag path
+call_edits v user now (RemoveAPPL dir creator path) = remove_appl_edits v user dir creator path
+call_edits v user now (AddComment dir path text) = add_comment_edits v user dir path text
+call_edits v user now (RemoveComment dir path) = remove_comment_edits v user dir path
 
 -- whether the names of a call are names, what is copied is formed, and what is put into the desktop database has the form of that
 abbrev pub is_formed_call : VolumeCall → Bool

@@ -2,12 +2,13 @@
 use Rattle.std.specs.Prelude.{ℕ, ◌==◌, Bool, true, ◌&&◌, List, [], ◌∷◌, Option, Some, None, Result, Ok, Err, option_map, is_none, if◌then◌else◌, bytes_eq}
 use Rattle.std.specs.List.{find, list_any, list_all}
 use Rattle.afp_base.specs.declared.code.Code.{Code}
-use Rattle.afp_base.specs.declared.code.Code.TheVariants.{ObjectNotFound, DirNotFound, ParamErr}
+use Rattle.afp_base.specs.declared.code.Code.TheVariants.{AccessDenied, ObjectNotFound, DirNotFound, ParamErr}
 use Rattle.afp_names.specs.Name.{name_key, name_fault}
 use Rattle.afp_names.specs.LongName.{long_name_of}
 use Rattle.afp_names.specs.Path.{long_names, PathValue, element_of}
 use Rattle.afp_names.specs.declared.path.Step.{Step}
 use Rattle.afp_names.specs.declared.path.Step.TheVariants.{Up, Down}
+use Rattle.volume_spec.specs.Rights.{is_closed}
 use Rattle.volume_spec.specs.VolumeState.{Row, root_parent}
 
 -- whether this id is a directory's
@@ -50,11 +51,15 @@ abbrev pub onward : Option ℕ → Code → (ℕ → Result ℕ Code) → Result
 onward (Some id) code rest = rest id
 onward None code rest = Err code
 
--- Where steps lead from a node, or why they lead nowhere. Up goes to the parent, and not from the root's parent; down goes to a child.
-abbrev pub walk_from : List Row → ℕ → Code → List Step → ℕ → Result ℕ Code
-walk_from rows kind missing [] here = Ok here
-walk_from rows kind missing (Up ∷ steps) here = onward (parent_at rows here) ObjectNotFound (walk_from rows kind missing steps)
-walk_from rows kind missing (Down name ∷ steps) here = onward (child rows kind here name) (failed_down missing steps) (walk_from rows kind missing steps)
+-- down from a directory, where the user may search it: it is denied before the child is looked for
+abbrev pub unless_closed : Bool → Result ℕ Code → Result ℕ Code
+unless_closed closed goes = if closed then Err AccessDenied else goes
+
+-- Where steps lead a user from a node, or why they lead nowhere. Up goes to the parent, and not from the root's parent; down goes to a child.
+abbrev pub walk_from : List Row → ℕ → ℕ → Code → List Step → ℕ → Result ℕ Code
+walk_from rows user kind missing [] here = Ok here
+walk_from rows user kind missing (Up ∷ steps) here = onward (parent_at rows here) ObjectNotFound (walk_from rows user kind missing steps)
+walk_from rows user kind missing (Down name ∷ steps) here = unless_closed (is_closed rows user here) (onward (child rows kind here name) (failed_down missing steps) (walk_from rows user kind missing steps))
 
 -- a walk that ends at the root's parent finds no object
 abbrev pub not_above_root : Result ℕ Code → Result ℕ Code
@@ -65,13 +70,13 @@ not_above_root (Err code) = Err code
 abbrev pub is_start : List Row → ℕ → Bool
 is_start rows dir = if dir == root_parent then true else has_directory rows dir
 
--- the node to which steps lead from a directory, or why they lead nowhere
-unfoldable pub walk : List Row → ℕ → Code → ℕ → List Step → Result ℕ Code
-walk rows kind missing dir steps = if is_start rows dir then not_above_root (walk_from rows kind missing steps dir) else Err DirNotFound
+-- the node to which steps lead a user from a directory, or why they lead nowhere
+unfoldable pub walk : List Row → ℕ → ℕ → Code → ℕ → List Step → Result ℕ Code
+walk rows user kind missing dir steps = if is_start rows dir then not_above_root (walk_from rows user kind missing steps dir) else Err DirNotFound
 
--- where a path leads from a directory
-abbrev pub found : List Row → ℕ → PathValue → Result ℕ Code
-found rows dir path = walk rows path.kind ObjectNotFound dir path.steps
+-- where a path leads a user from a directory
+abbrev pub found : List Row → ℕ → ℕ → PathValue → Result ℕ Code
+found rows user dir path = walk rows user path.kind ObjectNotFound dir path.steps
 
 -- all steps but the last, and the name to which the last goes down
 abbrev pub before_down : List Step → Option (List Step × List ℕ)
@@ -91,13 +96,13 @@ named_in rows name (Ok dir) = if has_directory rows dir then Ok (record { dir = 
 named_in rows name (Err code) = Err code
 
 -- the place of the last step, where that goes down
-abbrev pub place_behind : List Row → ℕ → ℕ → Option (List Step × List ℕ) → Result Place Code
-place_behind rows kind dir None = Err ParamErr
-place_behind rows kind dir (Some split) = named_in rows split.1 (walk rows kind DirNotFound dir split.0)
+abbrev pub place_behind : List Row → ℕ → ℕ → ℕ → Option (List Step × List ℕ) → Result Place Code
+place_behind rows user kind dir None = Err ParamErr
+place_behind rows user kind dir (Some split) = named_in rows split.1 (walk rows user kind DirNotFound dir split.0)
 
 -- the new place that a path names from a directory
-unfoldable pub new_place : List Row → ℕ → PathValue → Result Place Code
-new_place rows dir path = place_behind rows path.kind dir (before_down path.steps)
+unfoldable pub new_place : List Row → ℕ → ℕ → PathValue → Result Place Code
+new_place rows user dir path = place_behind rows user path.kind dir (before_down path.steps)
 
 -- a new name: a path of just one step down
 abbrev pub one_down : List Step → Result (List ℕ) Code

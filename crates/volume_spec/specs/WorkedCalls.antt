@@ -43,16 +43,16 @@ here = record { kind = utf8_names; steps = [] }
 
 -- the root; a file with bytes in its data fork, that was backed up and is filed, one with bytes in its resource fork, and a directory
 abbrev pub root : Row
-root = new_row true 2 1 s_name 0
+root = new_row true 500 2 1 s_name 0
 
 abbrev pub first_file : Row
-first_file = record (new_row false 17 2 a_name 5) { modified = pos 7; backup = pos 6; filed = true; data_fork = 1 ∷ 2 ∷ [] }
+first_file = record (new_row false 500 17 2 a_name 5) { modified = pos 7; backup = pos 6; filed = true; data_fork = 1 ∷ 2 ∷ [] }
 
 abbrev pub second_file : Row
-second_file = record (new_row false 18 2 b_name 5) { modified = pos 9; resource_fork = 3 ∷ [] }
+second_file = record (new_row false 500 18 2 b_name 5) { modified = pos 9; resource_fork = 3 ∷ [] }
 
 abbrev pub folder : Row
-folder = new_row true 19 2 d_name 0
+folder = new_row true 500 19 2 d_name 0
 
 abbrev pub creator : List ℕ
 creator = 1 ∷ 1 ∷ 1 ∷ 1 ∷ []
@@ -82,10 +82,10 @@ volume = record {
 
 -- why a call is refused where no fork is open, and the volume after it, where it is made at 30 seconds
 abbrev pub refused : VolumeState → VolumeCall → Option Code
-refused v call = volume_refusal v [] call
+refused v call = volume_refusal v 500 [] call
 
 abbrev pub after : VolumeState → VolumeCall → VolumeState
-after v call = after_call v 30 (call_edits v 30 call)
+after v call = after_call v 30 (call_edits v 500 30 call)
 
 -- the volume, changed at 30 seconds
 abbrev pub changed : VolumeState
@@ -96,7 +96,7 @@ abbrev pub dated_root : Row
 dated_root = record root { modified = pos 30 }
 
 abbrev pub with_file : VolumeState
-with_file = record changed { next_id = 21; rows = dated_root ∷ first_file ∷ second_file ∷ folder ∷ new_row false 20 2 free_name 30 ∷ [] }
+with_file = record changed { next_id = 21; rows = dated_root ∷ first_file ∷ second_file ∷ folder ∷ new_row false 500 20 2 free_name 30 ∷ [] }
 
 abbrev pub without_file : VolumeState
 without_file = record changed { next_id = 21; rows = dated_root ∷ first_file ∷ second_file ∷ folder ∷ [] }
@@ -110,7 +110,7 @@ FileIsDeleted = after with_file (Delete 2 (down_to free_name)) ≡ without_file
 abbrev pub NextIdIsDrawn : Type 0
 NextIdIsDrawn =
     after without_file (CreateFile false 2 (down_to free_name))
-    ≡ record without_file { next_id = 22; rows = dated_root ∷ first_file ∷ second_file ∷ folder ∷ new_row false 21 2 free_name 30 ∷ [] }
+    ≡ record without_file { next_id = 22; rows = dated_root ∷ first_file ∷ second_file ∷ folder ∷ new_row false 500 21 2 free_name 30 ∷ [] }
 
 -- FPRename, and FPMoveAndRename with no new name: the file has its id and its dates
 abbrev pub with_new_name : VolumeState
@@ -128,7 +128,7 @@ FileIsMoved = after with_new_name (MoveAndRename 2 (down_to free_name) 2 (down_t
 -- FPDelete: a file with an open fork, a directory, and the same with a child
 abbrev pub DeletesAreRefused : Type 0
 DeletesAreRefused =
-    (volume_refusal volume (record { node = 17; resource = true } ∷ []) (Delete 2 (down_to a_name)) ∷ refused volume (Delete 2 (down_to d_name)) ∷ refused moved (Delete 2 (down_to d_name)) ∷ [])
+    (volume_refusal volume 500 (record { node = 17; resource = true } ∷ []) (Delete 2 (down_to a_name)) ∷ refused volume (Delete 2 (down_to d_name)) ∷ refused moved (Delete 2 (down_to d_name)) ∷ [])
     ≡ (Some FileBusy ∷ None ∷ Some DirNotEmpty ∷ [])
 
 -- FPCreateID: a file that is not filed is filed, and nothing else changes
@@ -164,7 +164,7 @@ IdsAreDeleted =
 -- FPResolveID: bits come first; an id below 17 that is there, one that is not there, a directory's, that of a file that is not filed
 abbrev pub IdsAreResolved : Type 0
 IdsAreResolved =
-    (resolve_id_refusal volume 2 0x8000 ∷ resolve_id_refusal volume 2 0 ∷ resolve_id_refusal volume 99 0 ∷ resolve_id_refusal volume 19 0 ∷ resolve_id_refusal volume 18 0 ∷ [])
+    (resolve_id_refusal volume 500 2 0x8000 ∷ resolve_id_refusal volume 500 2 0 ∷ resolve_id_refusal volume 500 99 0 ∷ resolve_id_refusal volume 500 19 0 ∷ resolve_id_refusal volume 500 18 0 ∷ [])
     ≡ (Some BitmapErr ∷ Some BadIDErr ∷ Some IDNotFound ∷ Some ObjectTypeErr ∷ None ∷ [])
 
 -- FPExchangeFiles: forks and modified dates, and nothing else
@@ -193,7 +193,7 @@ ExchangesAreRefused =
 
 -- the first file as what is copied, held or not
 abbrev pub source : Bool → Source
-source held = record { file = first_file; held = held }
+source held = record { file = first_file; held = held; denied = false }
 
 -- FPCopyFile: the copy has the next id and the file's dates, was never backed up and is not filed; the modified date of its directory is set, and
 -- nothing else of the other nodes
@@ -222,7 +222,7 @@ CopyKeepsItsName =
     ≡ record other_volume {
       modified = pos 30;
       next_id = 18;
-      rows = record (new_row true 2 1 s_name 5) { modified = pos 30 } ∷ record first_file { backup = never; filed = false } ∷ [];
+      rows = record (new_row true 500 2 1 s_name 5) { modified = pos 30 } ∷ record first_file { backup = never; filed = false } ∷ [];
     }
 
 -- FPCopyFile: a free name, the same where an open fork holds the file, a name that is taken before that, a file for a directory, a name that is
@@ -331,7 +331,7 @@ CommentIsTaken = after (commented 3) (RemoveComment 2 (down_to a_name)) ≡ chan
 
 -- FPAddComment of no byte where there is no comment: no edit
 abbrev pub EmptyCommentIsNone : Type 0
-EmptyCommentIsNone = call_edits volume 30 (AddComment 2 (down_to a_name) []) ≡ []
+EmptyCommentIsNone = call_edits volume 500 30 (AddComment 2 (down_to a_name) []) ≡ []
 
 -- FPAddComment on a directory, and where no node is; FPRemoveComment of a comment, of the same once it has gone
 abbrev pub CommentsAreRefused : Type 0

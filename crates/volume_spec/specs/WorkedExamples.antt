@@ -26,7 +26,7 @@ RootIsTheGuests = map (λ row. row.privileges) (fresh_volume share 100).rows ≡
 
 -- a new file has no owner, no group and no rights
 abbrev pub NewFileIsNobodys : Type 0
-NewFileIsNobodys = (new_row false 17 2 share 100).privileges ≡ record { owner = 0; group = 0; everyone_rights = 0; group_rights = 0; owner_rights = 0 }
+NewFileIsNobodys = (new_row false 500 17 2 share 100).privileges ≡ record { owner = 0; group = 0; everyone_rights = 0; group_rights = 0; owner_rights = 0 }
 
 -- three bytes of rights: everyone's, the group's, the owner's; a directory may have them and a file may not, and no byte may be 8
 abbrev pub RightsAreInOrder : Type 0
@@ -46,7 +46,7 @@ abbrev pub some_tail : List ℕ
 some_tail = 0x80 ∷ 0x21 ∷ 0x00 ∷ 0x00 ∷ 0x00 ∷ 0x05 ∷ 0x80 ∷ 0x00 ∷ 0x00 ∷ 0x00 ∷ []
 
 abbrev pub TailIsRead : Type 0
-TailIsRead = settings_in 0x0015 some_tail ≡ record { attributes = Some 0x8021; created = Some (pos 5); modified = None; backup = Some (negsuc 2147483647); finder = None }
+TailIsRead = settings_in 0x0015 some_tail ≡ record { attributes = Some 0x8021; created = Some (pos 5); modified = None; backup = Some (negsuc 2147483647); finder = None; owner = None; group = None; rights = None }
 
 abbrev pub TailIsLongEnough : Type 0
 TailIsLongEnough = is_short_tail 0x0015 some_tail ≡ false

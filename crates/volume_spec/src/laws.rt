@@ -2,6 +2,7 @@
 ghost use Rattle.volume_spec.specs.ForkLaws as fork_laws;
 ghost use Rattle.volume_spec.specs.Laws as laws;
 ghost use Rattle.volume_spec.specs.ListLaws as list_laws;
+ghost use Rattle.volume_spec.specs.RightsExamples as rights;
 ghost use Rattle.volume_spec.specs.ValueLaws as value_laws;
 ghost use Rattle.volume_spec.specs.WorkedExamples as worked;
 
@@ -156,6 +157,9 @@ pub fn forks_do_not_matter()
     ensures keys { laws.KeysBare }
     ensures long_names { laws.LongNamesBare }
     ensures walks { laws.WalksBare }
+    ensures closed { laws.ClosedBare }
+    ensures lacks { laws.LacksBare }
+    ensures owners { laws.OwnersBare }
     ensures lists { laws.ListsBare }
     ensures taken { laws.TakenBare }
     ensures below { laws.BelowBare }
@@ -178,4 +182,20 @@ pub fn worked_examples_hold()
     ensures set { worked.AttributesAreSet }
     ensures cleared { worked.AttributesAreCleared }
     ensures masked { worked.AttributesAreMasked }
+{}
+
+/// A directory that is its owner's alone: what is told of it, and what others are refused.
+pub fn owners_are_told_apart()
+    ensures new { rights.NewIsTold }
+    ensures others { rights.OthersAreTold }
+    ensures takes { rights.OwnerTakes }
+    ensures denied { rights.OthersAreDenied }
+    ensures set { rights.OthersSetNothing }
+{}
+
+/// No step leads a user down from a directory that it may not search; and where a user's walk leads, so does that of one who may
+/// search each directory.
+pub fn rights_only_deny()
+    ensures closed { rights.ClosedIsDenied }
+    ensures deny { rights.RightsOnlyDeny }
 {}

@@ -1,5 +1,6 @@
 //! The numbers of a volume that code above goes by.
 ghost use Rattle.std.specs.Prelude.{◌≡◌};
+ghost use Rattle.volume_spec.specs.Rights.{read_right, search_right, write_right};
 ghost use Rattle.volume_spec.specs.SoundVolume.{dir_attributes, file_attributes, last_next_id, longest_comment, longest_icon, most_appls, most_icons, most_nodes};
 ghost use Rattle.volume_spec.specs.VolumeState.{all_rights, first_id, guest, only_group, root_id, root_parent};
 
@@ -30,6 +31,13 @@ pub const GUEST: u32 = 500;
 /// The id of the one group, which is each user's.
 pub const ONLY_GROUP: u32 = 500;
 
+/// The right to go down from a directory, that to read what is in it, and that to change it (AFP Reference, "Access rights").
+pub const SEARCH_RIGHT: u8 = 1;
+
+pub const READ_RIGHT: u8 = 2;
+
+pub const WRITE_RIGHT: u8 = 4;
+
 /// Search, read and write (AFP Reference, "Access rights").
 pub const ALL_RIGHTS: u8 = 7;
 
@@ -58,6 +66,9 @@ pub fn limits_are_told()
     ensures directories { DIRECTORY_ATTRIBUTES ≡ dir_attributes }
     ensures guest { GUEST ≡ guest }
     ensures group { ONLY_GROUP ≡ only_group }
+    ensures search { SEARCH_RIGHT ≡ search_right }
+    ensures read { READ_RIGHT ≡ read_right }
+    ensures write { WRITE_RIGHT ≡ write_right }
     ensures rights { ALL_RIGHTS ≡ all_rights }
     ensures nodes { MOST_NODES ≡ most_nodes }
     ensures icons { MOST_ICONS ≡ most_icons }

@@ -1,4 +1,4 @@
-use Rattle.volume_spec.proofs.BareRows.{finds-bare, parents-bare, keys-bare, long-names-bare, walks-bare, lists-bare, taken-bare, below-bare, changes-bare, gone-bare}
+use Rattle.volume_spec.proofs.BareRows.{finds-bare, parents-bare, keys-bare, long-names-bare, walks-bare, closed-bare, lacks-bare, owner-bare, lists-bare, taken-bare, below-bare, changes-bare, gone-bare}
 use Rattle.volume_spec.proofs.laws.forks_do_not_matter.Goals as goal
 
 pub returns-clause-found : goal.returns-clause-found
@@ -15,6 +15,15 @@ returns-clause-long_names c = long-names-bare
 
 pub returns-clause-walks : goal.returns-clause-walks
 returns-clause-walks c = walks-bare
+
+pub returns-clause-closed : goal.returns-clause-closed
+returns-clause-closed c = closed-bare
+
+pub returns-clause-lacks : goal.returns-clause-lacks
+returns-clause-lacks c = lacks-bare
+
+pub returns-clause-owners : goal.returns-clause-owners
+returns-clause-owners c = owner-bare
 
 pub returns-clause-taken : goal.returns-clause-taken
 returns-clause-taken c = taken-bare

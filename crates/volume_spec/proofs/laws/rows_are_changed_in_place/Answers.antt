@@ -7,7 +7,7 @@ use Rattle.volume_spec.proofs.Walks.{walk-there}
 use Rattle.volume_spec.proofs.laws.rows_are_changed_in_place.Goals as goal
 
 pub returns-clause-walks : goal.returns-clause-walks
-returns-clause-walks c = λ v dir id path s is. walk-there v path.kind ObjectNotFound dir path.steps id (tree-parts v s.tree) is
+returns-clause-walks c = λ v user dir id path s is. walk-there v user path.kind ObjectNotFound dir path.steps id (tree-parts v s.tree) is
 
 pub returns-clause-put : goal.returns-clause-put
 returns-clause-put c = sound-put
