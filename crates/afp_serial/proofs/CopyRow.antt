@@ -1,12 +1,12 @@
 -- What FPCopyFile owes: from one volume into another, or into the same.
-use Rattle.std.proofs.Common.{◌==◌, ◌≡◌, ◌∙◌, ap, sym, refl, ℕ, Bool, true, false, List, [], ◌∷◌, Option, Some, None}
+use Rattle.std.proofs.Common.{◌==◌, ◌≡◌, ◌∙◌, ap, sym, refl, ℕ, Bool, true, false, not, List, [], ◌∷◌, Option, Some, None}
 use Rattle.std.specs.Prelude.{Result, Ok, Err, option_map}
 use Rattle.std.specs.List.{list_all}
 use Rattle.std.proofs.lemmas.Bool.{and_from, and_parts, cond_both}
 use Rattle.afp_base.proofs.ListFacts.{find-all}
 use Rattle.afp_base.specs.Choice.{first_holding}
 use Rattle.afp_base.specs.declared.code.Code.{Code}
-use Rattle.afp_base.specs.declared.code.Code.TheVariants.{DenyConflict, DiskFull, ObjectExists, ObjectTypeErr, Ok as NoCode, ParamErr}
+use Rattle.afp_base.specs.declared.code.Code.TheVariants.{AccessDenied, DenyConflict, DiskFull, ObjectExists, ObjectTypeErr, Ok as NoCode, ParamErr}
 use Rattle.afp_base.specs.declared.ids.NodeId.{NodeId}
 use Rattle.afp_base.specs.declared.ids.VolumeId.{VolumeId}
 use Rattle.afp_names.specs.Path.{PathValue}
@@ -20,6 +20,7 @@ use Rattle.afp_calls_grammar.specs.declared.call.Call.TheVariants as calls
 use Rattle.afp_serial.proofs.LawfulCalls.{field-lawful}
 use Rattle.afp_serial.proofs.OnVolumeRows.{Asks, IsToldTo, done-keeps, refused_before-none, told-shown}
 use Rattle.afp_serial.proofs.OpenForkRow.{IsFileFound, found-file}
+use Rattle.afp_serial.proofs.SessionUsers.{user-long}
 use Rattle.afp_serial.proofs.SoundParts.{ApartSessions}
 use Rattle.afp_serial.proofs.SoundRow.{AreRefusedTo, IsRefusedTo, IsSoundRow, first-told, is_ok, no_more-kept, no_more-told, tells_no_more}
 use Rattle.afp_serial.proofs.ToldReplies.{empty-told}
@@ -34,17 +35,18 @@ use Rattle.afp_serial.specs.ReplyKinds.{command_of, reply_kind}
 use Rattle.afp_serial.specs.SessionLaws.{SessionsAfter, all_stay, logs_in}
 use Rattle.afp_serial.specs.Sound.{IsSound}
 use Rattle.afp_serial.specs.VolumeRows.{with_edits}
-use Rattle.afp_serial.specs.World.{Effect, Refusal, has_session, plain, refused_before, vol, volume_at, with_empty_reply, World, Session}
+use Rattle.afp_serial.specs.World.{Effect, Refusal, has_session, plain, refused_before, user_of, vol, volume_at, with_empty_reply, World, Session}
 use Rattle.volume_spec.proofs.Formed.{formed-parts}
 use Rattle.volume_spec.proofs.TypedEdits.{typed-parts}
 use Rattle.volume_spec.specs.CopyFile.{Source, copied_refusal, copy_file_refusal}
 use Rattle.volume_spec.specs.Edit.{Edit}
 use Rattle.volume_spec.specs.OpenFork.{open_fork_file}
-use Rattle.volume_spec.specs.Shared.{behind, first_or}
+use Rattle.volume_spec.specs.Rights.{lacks, read_right, write_right}
+use Rattle.volume_spec.specs.Shared.{behind, first_or, lacks_above}
 use Rattle.volume_spec.specs.SoundVolume.{is_formed}
-use Rattle.volume_spec.specs.TypedVolume.{is_typed_row}
+use Rattle.volume_spec.specs.TypedVolume.{is_long, is_typed_row}
 use Rattle.volume_spec.specs.VolumeState.{Row as File, VolumeState}
-use Rattle.volume_spec.specs.Walk.{found, is_named_path, one_down_or, row_at}
+use Rattle.volume_spec.specs.Walk.{found, has_directory, is_named_path, one_down_or, row_at}
 
 -- refusals: the opens of the source may deny the copy
 
@@ -70,28 +72,31 @@ first-copy (row ∷ rows) h =
     let e = and_parts (is_copy_code row.1) (list_all (λ (r : Bool × Code). is_copy_code r.1) rows) h in
     cond_both row.0 (Some row.1) (first_holding rows) (λ o. is_copy_refusal o ≡ true) (λ holds. e.0) (λ other. first-copy rows e.1)
 
-or-copy : (b : Bool) (rest : Option Code) → is_copy_refusal rest ≡ true → is_copy_refusal (first_or ((b, ObjectTypeErr) ∷ []) rest) ≡ true
-or-copy true rest h = refl
-or-copy false rest h = h
+or-copy : (rows : List (Bool × Code)) (rest : Option Code) → list_all (λ row. is_copy_code row.1) rows ≡ true → is_copy_refusal rest ≡ true → is_copy_refusal (first_or rows rest) ≡ true
+or-copy [] rest h k = k
+or-copy (row ∷ rows) rest h k =
+    let e = and_parts (is_copy_code row.1) (list_all (λ (r : Bool × Code). is_copy_code r.1) rows) h in
+    cond_both row.0 (Some row.1) (first_or rows rest) (λ o. is_copy_refusal o ≡ true) (λ holds. e.0) (λ other. or-copy rows rest e.1 k)
 
 behind-copy : {A : Type 0} (r : Result A Code) (refused : A → Option Code) → fails_rightly r ≡ true → ((a : A) → is_copy_refusal (refused a) ≡ true) → is_copy_refusal (behind r refused) ≡ true
 behind-copy (Ok a) refused h gives = gives a
 behind-copy (Err code) refused h gives = no_more-copy code h
 
-copy-refuses : (v : VolumeState) (source : Source) (dir : ℕ) (path new : PathValue) → is_copy_refusal (copy_file_refusal v source dir path new) ≡ true
+copy-refuses : (v : VolumeState) (user : ℕ) (source : Source) (dir : ℕ) (path new : PathValue) → is_copy_refusal (copy_file_refusal v user source dir path new) ≡ true
 unfolding copy_file_refusal
-copy-refuses v source dir path new =
-    behind-copy (found v.rows dir path) _ (found-fails v.rows dir path) (λ target. or-copy _ _
+copy-refuses v user source dir path new =
+    behind-copy (found v.rows user dir path) _ (found-fails v.rows user dir path)
+    (λ target. or-copy ((not (has_directory v.rows target), ObjectTypeErr) ∷ (source.denied, AccessDenied) ∷ (lacks v.rows user write_right target, AccessDenied) ∷ []) _ refl
     (behind-copy (one_down_or source.file.name new.steps) _ (down-or-fails source.file.name new.steps) (λ name. first-copy ((_, ObjectExists) ∷ (_, DenyConflict) ∷ (_, DiskFull) ∷ (_, DiskFull) ∷ []) refl)))
 
-target-refuses : (asked : CopyAsked) (o : Option VolumeState) (q : Option Source) → is_copy_refusal (copy_refused asked o q) ≡ true
-target-refuses asked o None = refl
-target-refuses asked None (Some source) = refl
-target-refuses asked (Some v) (Some source) = copy-refuses v source asked.target_dir asked.target_path asked.new_path
+target-refuses : (user : ℕ) (asked : CopyAsked) (o : Option VolumeState) (q : Option Source) → is_copy_refusal (copy_refused user asked o q) ≡ true
+target-refuses user asked o None = refl
+target-refuses user asked None (Some source) = refl
+target-refuses user asked (Some v) (Some source) = copy-refuses v user source asked.target_dir asked.target_path asked.new_path
 
-source-refuses : (asked : CopyAsked) (o : Option VolumeState) → is_copy_refusal (refused_on o (λ v. copied_refusal v asked.dir asked.path)) ≡ true
-source-refuses asked None = refl
-source-refuses asked (Some v) = refusal-copy (copied_refusal v asked.dir asked.path) (copied-refuses v asked.dir asked.path)
+source-refuses : (user : ℕ) (asked : CopyAsked) (o : Option VolumeState) → is_copy_refusal (refused_on o (λ v. copied_refusal v user asked.dir asked.path)) ≡ true
+source-refuses user asked None = refl
+source-refuses user asked (Some v) = refusal-copy (copied_refusal v user asked.dir asked.path) (copied-refuses v user asked.dir asked.path)
 
 -- a call whose requests are told nothing with such a code
 abbrev TellsNothing : Call → Type 0
@@ -122,10 +127,10 @@ before-told call nothing (Some code) rest h k = (copy-told call nothing code h, 
 behind-row : (row : Refusal) (rows : List Refusal) → first_holding (row ∷ rows) ≡ None → first_holding rows ≡ None
 behind-row row rows h = cond_both row.0 (Some row.1) (first_holding rows) (λ o. o ≡ None → first_holding rows ≡ None) (λ holds k. absurd (cc)) (λ other k. k) h
 
-target-passes : (w : World) (s : Session) (asked : CopyAsked) → first_holding ((copies asked).refusals w s) ≡ None → copy_refused asked (volume_at w.volumes asked.target) (source_of w asked) ≡ None
+target-passes : (w : World) (s : Session) (asked : CopyAsked) → first_holding ((copies asked).refusals w s) ≡ None → copy_refused (user_of s) asked (volume_at w.volumes asked.target) (source_of w (user_of s) asked) ≡ None
 target-passes w s asked passes =
-    let target : Option Code = copy_refused asked (volume_at w.volumes asked.target) (source_of w asked) in
-    let source : Option Code = refused_on (volume_at w.volumes asked.volume) (λ v. copied_refusal v asked.dir asked.path) in
+    let target : Option Code = copy_refused (user_of s) asked (volume_at w.volumes asked.target) (source_of w (user_of s) asked) in
+    let source : Option Code = refused_on (volume_at w.volumes asked.volume) (λ v. copied_refusal v (user_of s) asked.dir asked.path) in
     let two : List Refusal = refused_before source (refused_before target []) in
     let both = behind-row (vol s asked.target) two (behind-row (vol s asked.volume) (vol s asked.target ∷ two) passes) in
     (refused_before-none target [] (refused_before-none source (refused_before target []) both).1).0
@@ -136,36 +141,36 @@ row-good : (v : VolumeState) (file : File) → IsFileFound v file → (p : File 
 unfolding row_at
 row-good v file f p all = find-all (λ (r : File). r.id == f.id) p v.rows file f.row all
 
-source-good : (w : World) (asked : CopyAsked) (source : Source) → IsSound w → source_of w asked ≡ Some source → (is_formed source.file ≡ true) × (is_typed_row source.file ≡ true)
-source-good w asked source h is = by (volume_at w.volumes asked.volume) refl is
+source-good : (w : World) (user : ℕ) (asked : CopyAsked) (source : Source) → IsSound w → source_of w user asked ≡ Some source → (is_formed source.file ≡ true) × (is_typed_row source.file ≡ true)
+source-good w user asked source h is = by (volume_at w.volumes asked.volume) refl is
   where
-    of-file : (v : VolumeState) (q : Option File) → volume_at w.volumes asked.volume ≡ Some v → open_fork_file v asked.dir asked.path ≡ q
-        → option_map (λ (file : File). record { file = file; held = is_held w asked.volume file.id }) q ≡ Some source → (is_formed source.file ≡ true) × (is_typed_row source.file ≡ true)
+    of-file : (v : VolumeState) (q : Option File) → volume_at w.volumes asked.volume ≡ Some v → open_fork_file v user asked.dir asked.path ≡ q
+        → option_map (λ (file : File). record { file = file; held = is_held w asked.volume file.id; denied = lacks_above v.rows user read_right file.id }) q ≡ Some source → (is_formed source.file ≡ true) × (is_typed_row source.file ≡ true)
     of-file v None there from k = absurd (cc)
     of-file v (Some file) there from k =
-        let same : record { file = file; held = is_held w asked.volume file.id } ≡ source = cc in
-        let f : IsFileFound v file = found-file v asked.dir asked.path file from in
+        let same : record { file = file; held = is_held w asked.volume file.id; denied = lacks_above v.rows user read_right file.id } ≡ source = cc in
+        let f : IsFileFound v file = found-file v user asked.dir asked.path file from in
         let served : IsServed v asked.volume = served-at w asked.volume v h there in (
           ap (λ (x : Source). is_formed x.file) (sym same) ∙ row-good v file f is_formed (formed-parts v served.sound.formed).rows,
           ap (λ (x : Source). is_typed_row x.file) (sym same) ∙ row-good v file f is_typed_row (typed-parts v served.typed).rows,
         )
 
-    by : (o : Option VolumeState) → volume_at w.volumes asked.volume ≡ o → source_on w asked.volume o asked.dir asked.path ≡ Some source → (is_formed source.file ≡ true) × (is_typed_row source.file ≡ true)
+    by : (o : Option VolumeState) → volume_at w.volumes asked.volume ≡ o → source_on w user asked.volume o asked.dir asked.path ≡ Some source → (is_formed source.file ≡ true) × (is_typed_row source.file ≡ true)
     by None there k = absurd (cc)
-    by (Some v) there k = of-file v (open_fork_file v asked.dir asked.path) there refl k
+    by (Some v) there k = of-file v (open_fork_file v user asked.dir asked.path) there refl k
 
-copied-sound : (w : World) (asked : CopyAsked) → is_named_path asked.new_path ≡ true → copy_refused asked (volume_at w.volumes asked.target) (source_of w asked) ≡ None → IsSound w
-    → IsSound (done_on (volume_at w.volumes asked.target) w (λ v. with_empty_reply (with_edits w asked.target v (copy_edits w asked (source_of w asked) v)))).world
-copied-sound w asked named passes h = by (source_of w asked) (volume_at w.volumes asked.target) refl refl passes
+copied-sound : (w : World) (user : ℕ) (asked : CopyAsked) → is_long user ≡ true → is_named_path asked.new_path ≡ true → copy_refused user asked (volume_at w.volumes asked.target) (source_of w user asked) ≡ None → IsSound w
+    → IsSound (done_on (volume_at w.volumes asked.target) w (λ v. with_empty_reply (with_edits w asked.target v (copy_edits w user asked (source_of w user asked) v)))).world
+copied-sound w user asked long named passes h = by (source_of w user asked) (volume_at w.volumes asked.target) refl refl passes
   where
-    by : (q : Option Source) (o : Option VolumeState) → source_of w asked ≡ q → volume_at w.volumes asked.target ≡ o → copy_refused asked o q ≡ None
-        → IsSound (done_on o w (λ v. with_empty_reply (with_edits w asked.target v (copy_edits w asked q v)))).world
+    by : (q : Option Source) (o : Option VolumeState) → source_of w user asked ≡ q → volume_at w.volumes asked.target ≡ o → copy_refused user asked o q ≡ None
+        → IsSound (done_on o w (λ v. with_empty_reply (with_edits w asked.target v (copy_edits w user asked q v)))).world
     by None None from there clear = h
     by None (Some v) from there clear = h
     by (Some source) None from there clear = h
     by (Some source) (Some v) from there clear =
-        let good = source-good w asked source h from in
-        change-sound w asked.target v (copy_call asked source) (and_from (is_formed source.file) (is_named_path asked.new_path) good.0 named) good.1 there clear h
+        let good = source-good w user asked source h from in
+        change-sound w user asked.target v (copy_call asked source) long (and_from (is_formed source.file) (is_named_path asked.new_path) good.0 named) good.1 there clear h
 
 -- the row
 
@@ -175,35 +180,35 @@ copies-sound call asked asks nothing named = record {
     no_more-told call (plain ParamErr) refl,
     (
       no_more-told call (plain ParamErr) refl,
-      before-told call nothing (refused_on (volume_at w.volumes asked.volume) (λ v. copied_refusal v asked.dir asked.path)) _ (source-refuses asked (volume_at w.volumes asked.volume))
-          (before-told call nothing (copy_refused asked (volume_at w.volumes asked.target) (source_of w asked)) [] (target-refuses asked (volume_at w.volumes asked.target) (source_of w asked)) tt),
+      before-told call nothing (refused_on (volume_at w.volumes asked.volume) (λ v. copied_refusal v (user_of s) asked.dir asked.path)) _ (source-refuses (user_of s) asked (volume_at w.volumes asked.volume))
+          (before-told call nothing (copy_refused (user_of s) asked (volume_at w.volumes asked.target) (source_of w (user_of s) asked)) [] (target-refuses (user_of s) asked (volume_at w.volumes asked.target) (source_of w (user_of s) asked)) tt),
     ),
   );
-  sound = λ w s test lawful found passes h. copied-sound w asked (named lawful) (target-passes w s asked passes) h;
-  fits = λ w s lawful passes h. (told w).short;
-  shown = λ w s lawful passes h known. told-shown call (done_on (volume_at w.volumes asked.target) w (does w)).reply (told w);
-  apart = λ w s test found a. done-keeps ApartSessions (volume_at w.volumes asked.target) w (does w) a
-      (λ v. edits-keep ApartSessions w asked.target v (edits w v) a (λ new. record { numbers = a.numbers; links = a.links; below = a.below }));
-  next = λ w s. done-keeps (λ x. x.next_link ≡ w.next_link) (volume_at w.volumes asked.target) w (does w) refl (λ v. edits-keep (λ x. x.next_link ≡ w.next_link) w asked.target v (edits w v) refl (λ new. refl));
-  keeper = λ w s index passes commits. edits-keeper w asked.target index (edits w) commits;
-  old = λ w s n h. done-keeps (λ x. has_session x.sessions n ≡ true → has_session w.sessions n ≡ true) (volume_at w.volumes asked.target) w (does w) (λ h. h)
-      (λ v. edits-keep (λ x. has_session x.sessions n ≡ true → has_session w.sessions n ≡ true) w asked.target v (edits w v) (λ h. h) (λ new h. h)) h;
-  cached = λ w s test found p h. done-keeps (λ x. list_all (λ y. p y.number y.cache) x.sessions ≡ true) (volume_at w.volumes asked.target) w (does w) h
-      (λ v. edits-keep (λ x. list_all (λ y. p y.number y.cache) x.sessions ≡ true) w asked.target v (edits w v) h (λ new. h));
-  leaves = λ stays w s. done-keeps (SessionsAfter (logs_in call) w s) (volume_at w.volumes asked.target) w (does w) (all_stay refl)
-      (λ v. edits-keep (SessionsAfter (logs_in call) w s) w asked.target v (edits w v) (all_stay refl) (λ new. all_stay refl));
+  sound = λ w s test lawful found passes h. copied-sound w (user_of s) asked (user-long w s test found h) (named lawful) (target-passes w s asked passes) h;
+  fits = λ w s lawful passes h. (told w s).short;
+  shown = λ w s lawful passes h known. told-shown call (done_on (volume_at w.volumes asked.target) w (does w s)).reply (told w s);
+  apart = λ w s test found a. done-keeps ApartSessions (volume_at w.volumes asked.target) w (does w s) a
+      (λ v. edits-keep ApartSessions w asked.target v (edits w s v) a (λ new. record { numbers = a.numbers; links = a.links; below = a.below }));
+  next = λ w s. done-keeps (λ x. x.next_link ≡ w.next_link) (volume_at w.volumes asked.target) w (does w s) refl (λ v. edits-keep (λ x. x.next_link ≡ w.next_link) w asked.target v (edits w s v) refl (λ new. refl));
+  keeper = λ w s index passes commits. edits-keeper w asked.target index (edits w s) commits;
+  old = λ w s n h. done-keeps (λ x. has_session x.sessions n ≡ true → has_session w.sessions n ≡ true) (volume_at w.volumes asked.target) w (does w s) (λ h. h)
+      (λ v. edits-keep (λ x. has_session x.sessions n ≡ true → has_session w.sessions n ≡ true) w asked.target v (edits w s v) (λ h. h) (λ new h. h)) h;
+  cached = λ w s test found p h. done-keeps (λ x. list_all (λ y. p y.number y.cache) x.sessions ≡ true) (volume_at w.volumes asked.target) w (does w s) h
+      (λ v. edits-keep (λ x. list_all (λ y. p y.number y.cache) x.sessions ≡ true) w asked.target v (edits w s v) h (λ new. h));
+  leaves = λ stays w s. done-keeps (SessionsAfter (logs_in call) w s) (volume_at w.volumes asked.target) w (does w s) (all_stay refl)
+      (λ v. edits-keep (SessionsAfter (logs_in call) w s) w asked.target v (edits w s v) (all_stay refl) (λ new. all_stay refl));
 }
   where
-    edits : World → VolumeState → List Edit
-    edits w v = copy_edits w asked (source_of w asked) v
+    edits : World → Session → VolumeState → List Edit
+    edits w s v = copy_edits w (user_of s) asked (source_of w (user_of s) asked) v
 
-    does : World → VolumeState → Effect
-    does w v = with_empty_reply (with_edits w asked.target v (copy_edits w asked (source_of w asked) v))
+    does : World → Session → VolumeState → Effect
+    does w s v = with_empty_reply (with_edits w asked.target v (copy_edits w (user_of s) asked (source_of w (user_of s) asked) v))
 
-    told : (w : World) → IsToldTo call (done_on (volume_at w.volumes asked.target) w (does w)).reply
-    told w = by (volume_at w.volumes asked.target)
+    told : (w : World) (s : Session) → IsToldTo call (done_on (volume_at w.volumes asked.target) w (does w s)).reply
+    told w s = by (volume_at w.volumes asked.target)
       where
-        by : (o : Option VolumeState) → IsToldTo call (done_on o w (does w)).reply
+        by : (o : Option VolumeState) → IsToldTo call (done_on o w (does w s)).reply
         by None = empty-told call asks
         by (Some v) = empty-told call asks
 

@@ -7,7 +7,7 @@ use Rattle.std.proofs.lemmas.List.{append-nil, length-append, length-take}
 use Rattle.afp_base.proofs.ListFacts.{all-filter, all-place, any-weaker, find-all}
 use Rattle.afp_base.specs.Choice.{first_holding}
 use Rattle.afp_base.specs.Limits.{payload_limit}
-use Rattle.afp_base.specs.declared.code.Code.TheVariants.{BadIDErr, BitmapErr, IDNotFound, ItemNotFound, ObjectTypeErr, ParamErr}
+use Rattle.afp_base.specs.declared.code.Code.TheVariants.{AccessDenied, BadIDErr, BitmapErr, IDNotFound, ItemNotFound, ObjectTypeErr, ParamErr}
 use Rattle.afp_base.specs.declared.ids.NodeId.{NodeId}
 use Rattle.afp_base.specs.declared.ids.VolumeId.{VolumeId}
 use Rattle.afp_bitmap.specs.Bits.{file_mask, is_outside}
@@ -28,7 +28,7 @@ use Rattle.afp_serial.proofs.OnVolumeRows.{Asks, IsToldTo, tells-sound}
 use Rattle.afp_serial.proofs.ParamsSize.{params-size}
 use Rattle.afp_serial.proofs.SoundRow.{IsSoundRow}
 use Rattle.afp_serial.proofs.ToldReplies.{empty-told}
-use Rattle.afp_serial.proofs.VolumeCodes.{comment-there-refuses, get-appl-refuses, get-icon-info-refuses, get-icon-refuses, resolve-id-refuses}
+use Rattle.afp_serial.proofs.VolumeCodes.{get-appl-refuses, get-comment-refuses, get-icon-info-refuses, get-icon-refuses, resolve-id-refuses}
 use Rattle.afp_serial.proofs.VolumeStates.{IsServed}
 use Rattle.afp_serial.specs.Appls.{appl_reply, get_appl_reply, get_appl_row}
 use Rattle.afp_serial.specs.Comments.{get_comment_reply, get_comment_row}
@@ -36,6 +36,7 @@ use Rattle.afp_serial.specs.FileIds.{resolve_id_reply, resolve_id_row}
 use Rattle.afp_serial.specs.Icons.{get_icon_info_reply, get_icon_info_row, get_icon_reply, get_icon_row}
 use Rattle.afp_serial.specs.OnVolume.{opened_on}
 use Rattle.afp_serial.specs.OpenDT.{close_dt_row, open_dt_row}
+use Rattle.afp_serial.specs.World.{user_of}
 use Rattle.volume_spec.proofs.Formed.{formed-parts}
 use Rattle.volume_spec.proofs.Refusals.{none-holds}
 use Rattle.volume_spec.proofs.SeenRows.{file-found}
@@ -43,13 +44,14 @@ use Rattle.volume_spec.proofs.Trees.{tree-parts}
 use Rattle.volume_spec.proofs.TypedEdits.{typed-parts}
 use Rattle.volume_spec.proofs.Walks.{row-there}
 use Rattle.volume_spec.specs.Appls.{get_appl_mapping, get_appl_refusal, get_appl_values}
-use Rattle.volume_spec.specs.Comments.{comment_there_refusal, get_comment_text}
+use Rattle.volume_spec.specs.Comments.{get_comment_refusal, get_comment_text}
 use Rattle.volume_spec.specs.Desktop.{appls_of, comment_at, icons_of, nth_appl, nth_from_one, nth_icon}
 use Rattle.volume_spec.specs.FileIds.{resolve_id_refusal, resolve_id_values}
 use Rattle.volume_spec.specs.Icons.{get_icon_bits, get_icon_info_icon, get_icon_info_refusal, get_icon_refusal, icon_under_parts}
 use Rattle.volume_spec.specs.NodeValues.{file_values}
 use Rattle.volume_spec.specs.OpenFork.{file_of, fork_values}
-use Rattle.volume_spec.specs.Shared.{Opened, behind, done_at}
+use Rattle.volume_spec.specs.Rights.{read_right}
+use Rattle.volume_spec.specs.Shared.{Opened, behind, done_at, lacks_above}
 use Rattle.volume_spec.specs.SoundVolume.{IsSoundVolume, has_file, has_node, has_noted_nodes, icon_key, is_comment, is_icon, longest_comment, longest_icon}
 use Rattle.volume_spec.specs.TypedVolume.{are_bytes, is_byte, is_long, is_typed_appl, is_typed_icon}
 use Rattle.volume_spec.specs.VolumeState.{Appl as Mapping, Comment as Note, Icon, Row as File, VolumeState, first_id}
@@ -78,11 +80,11 @@ file-told v opens bits id there sound =
 
 -- FPResolveID
 
-resolve-told : (call : Call) (v : VolumeState) (opens : List Opened) (volume id bits : ℕ) → ((values : FileValues) → Asks call (Params bits (FileParams values))) → IsServed v volume → resolve_id_refusal v id bits ≡ None
+resolve-told : (call : Call) (v : VolumeState) (user : ℕ) (opens : List Opened) (volume id bits : ℕ) → ((values : FileValues) → Asks call (Params bits (FileParams values))) → IsServed v volume → resolve_id_refusal v user id bits ≡ None
     → IsToldTo call (resolve_id_reply bits (resolve_id_values v opens id bits))
 unfolding resolve_id_refusal resolve_id_values
-resolve-told call v opens volume id bits asks served passes =
-    let none = none-holds ((is_outside file_mask bits, BitmapErr) ∷ (nat_lt id first_id, BadIDErr) ∷ (not (has_node v.rows id), IDNotFound) ∷ (not (has_file v.rows id), ObjectTypeErr) ∷ []) passes in
+resolve-told call v user opens volume id bits asks served passes =
+    let none = none-holds ((is_outside file_mask bits, BitmapErr) ∷ (nat_lt id first_id, BadIDErr) ∷ (not (has_node v.rows id), IDNotFound) ∷ (not (has_file v.rows id), ObjectTypeErr) ∷ (lacks_above v.rows user read_right id, AccessDenied) ∷ []) passes in
     let t : ToldFile v opens bits id = file-told v opens bits id (not-false (has_file v.rows id) none.1.1.1.0) served.sound in
     subst (λ o. IsToldTo call (resolve_id_reply bits o)) (sym t.told)
     (file-params-told call bits (file_values opens bits t.file) (asks (file_values opens bits t.file)) (file-answer v opens bits id t.file t.found t.kind served.sound served.typed) none.0)
@@ -93,8 +95,8 @@ resolve-id-asks volume id bits values = (refl, refl)
 
 pub resolve-id-sound : (volume : VolumeId) (id : NodeId) (bits : ℕ) → IsSoundRow (calls.ResolveID volume id bits) (resolve_id_row volume.0 id.0 bits)
 resolve-id-sound volume id bits =
-    tells-sound (calls.ResolveID volume id bits) volume.0 _ _ (λ w v. resolve-id-refuses v id.0 bits)
-    (λ w v lawful served passes. resolve-told (calls.ResolveID volume id bits) v (opened_on w volume.0) volume.0 id.0 bits (resolve-id-asks volume id bits) served passes)
+    tells-sound (calls.ResolveID volume id bits) volume.0 _ _ (λ w s v. resolve-id-refuses v (user_of s) id.0 bits)
+    (λ w s v lawful served passes. resolve-told (calls.ResolveID volume id bits) v (user_of s) (opened_on w volume.0) volume.0 id.0 bits (resolve-id-asks volume id bits) served passes)
 
 -- FPOpenDT and FPCloseDT
 
@@ -110,14 +112,14 @@ desk-told call dt asks small = record {
 
 pub open-dt-sound : (volume : VolumeId) → IsSoundRow (calls.OpenDT volume) (open_dt_row volume.0)
 open-dt-sound volume =
-    tells-sound (calls.OpenDT volume) volume.0 _ _ (λ w v. refl) (λ w v lawful served passes. desk-told (calls.OpenDT volume) volume.0 (open-dt-asks volume volume.0) served.small)
+    tells-sound (calls.OpenDT volume) volume.0 _ _ (λ w s v. refl) (λ w s v lawful served passes. desk-told (calls.OpenDT volume) volume.0 (open-dt-asks volume volume.0) served.small)
 
 close-dt-asks : (dt : ℕ) → Asks (calls.CloseDT dt) Empty
 unfolding shape_of shape_in rows
 close-dt-asks dt = refl
 
 pub close-dt-sound : (dt : ℕ) → IsSoundRow (calls.CloseDT dt) (close_dt_row dt)
-close-dt-sound dt = tells-sound (calls.CloseDT dt) dt _ _ (λ w v. refl) (λ w v lawful served passes. empty-told (calls.CloseDT dt) (close-dt-asks dt))
+close-dt-sound dt = tells-sound (calls.CloseDT dt) dt _ _ (λ w s v. refl) (λ w s v lawful served passes. empty-told (calls.CloseDT dt) (close-dt-asks dt))
 
 -- FPGetIcon
 
@@ -155,8 +157,8 @@ get-icon-asks dt creator kind icon_kind count bits = inr refl
 
 pub get-icon-sound : (dt : ℕ) (creator kind : List ℕ) (icon_kind count : ℕ) → IsSoundRow (calls.GetIcon dt creator kind icon_kind count) (get_icon_row dt creator kind icon_kind count)
 get-icon-sound dt creator kind icon_kind count =
-    tells-sound (calls.GetIcon dt creator kind icon_kind count) dt _ _ (λ w v. get-icon-refuses v creator kind icon_kind)
-    (λ w v lawful served passes. icon-told (calls.GetIcon dt creator kind icon_kind count) v dt creator kind icon_kind count (get-icon-asks dt creator kind icon_kind count) served passes)
+    tells-sound (calls.GetIcon dt creator kind icon_kind count) dt _ _ (λ w s v. get-icon-refuses v creator kind icon_kind)
+    (λ w s v lawful served passes. icon-told (calls.GetIcon dt creator kind icon_kind count) v dt creator kind icon_kind count (get-icon-asks dt creator kind icon_kind count) served passes)
 
 -- FPGetIconInfo
 
@@ -199,8 +201,8 @@ get-icon-info-asks dt creator index tag kind icon_kind size = refl
 
 pub get-icon-info-sound : (dt : ℕ) (creator : List ℕ) (index : ℕ) → IsSoundRow (calls.GetIconInfo dt creator index) (get_icon_info_row dt creator index)
 get-icon-info-sound dt creator index =
-    tells-sound (calls.GetIconInfo dt creator index) dt _ _ (λ w v. get-icon-info-refuses v creator index)
-    (λ w v lawful served passes. icon-info-told (calls.GetIconInfo dt creator index) v dt creator index (get-icon-info-asks dt creator index) served passes)
+    tells-sound (calls.GetIconInfo dt creator index) dt _ _ (λ w s v. get-icon-info-refuses v creator index)
+    (λ w s v lawful served passes. icon-info-told (calls.GetIconInfo dt creator index) v dt creator index (get-icon-info-asks dt creator index) served passes)
 
 -- FPGetAPPL
 
@@ -245,8 +247,8 @@ get-appl-asks dt creator index bits tag values = (refl, refl)
 
 pub get-appl-sound : (dt : ℕ) (creator : List ℕ) (index bits : ℕ) → IsSoundRow (calls.GetAPPL dt creator index bits) (get_appl_row dt creator index bits)
 get-appl-sound dt creator index bits =
-    tells-sound (calls.GetAPPL dt creator index bits) dt _ _ (λ w v. get-appl-refuses v creator index bits)
-    (λ w v lawful served passes. appl-told (calls.GetAPPL dt creator index bits) v (opened_on w dt) dt creator index bits (get-appl-asks dt creator index bits) served passes)
+    tells-sound (calls.GetAPPL dt creator index bits) dt _ _ (λ w s v. get-appl-refuses v creator index bits)
+    (λ w s v lawful served passes. appl-told (calls.GetAPPL dt creator index bits) v (opened_on w dt) dt creator index bits (get-appl-asks dt creator index bits) served passes)
 
 -- FPGetComment
 
@@ -259,9 +261,9 @@ note-told call text asks few =
       fits = record { fits = omega (arith, few); told = asks };
     }
 
-comment-told : (call : Call) (v : VolumeState) (volume dir : ℕ) (path : PathValue) → ((text : List ℕ) → Asks call (Comment text)) → IsServed v volume → comment_there_refusal v dir path ≡ None → IsToldTo call (get_comment_reply (get_comment_text v dir path))
-unfolding comment_there_refusal get_comment_text
-comment-told call v volume dir path asks served passes = by (found v.rows dir path) passes
+comment-told : (call : Call) (v : VolumeState) (volume user dir : ℕ) (path : PathValue) → ((text : List ℕ) → Asks call (Comment text)) → IsServed v volume → get_comment_refusal v user dir path ≡ None → IsToldTo call (get_comment_reply (get_comment_text v user dir path))
+unfolding get_comment_refusal get_comment_text
+comment-told call v volume user dir path asks served passes = by (found v.rows user dir path) passes
   where
     of-note : (id : ℕ) (o : Option Note) → comment_at id v.comments ≡ o → is_none o ≡ false → IsToldTo call (get_comment_reply (option_map (λ (note : Note). note.text) o))
     of-note id None is h = absurd (cc)
@@ -279,5 +281,5 @@ get-comment-asks dt dir path text = refl
 
 pub get-comment-sound : (dt : ℕ) (dir : NodeId) (path : PathValue) → IsSoundRow (calls.GetComment dt dir path) (get_comment_row dt dir.0 path)
 get-comment-sound dt dir path =
-    tells-sound (calls.GetComment dt dir path) dt _ _ (λ w v. comment-there-refuses v dir.0 path)
-    (λ w v lawful served passes. comment-told (calls.GetComment dt dir path) v dt dir.0 path (get-comment-asks dt dir path) served passes)
+    tells-sound (calls.GetComment dt dir path) dt _ _ (λ w s v. get-comment-refuses v (user_of s) dir.0 path)
+    (λ w s v lawful served passes. comment-told (calls.GetComment dt dir path) v dt (user_of s) dir.0 path (get-comment-asks dt dir path) served passes)

@@ -40,7 +40,7 @@ use Rattle.afp_serial.specs.OpenVol.{open_vol_row, state_named, volume_named}
 use Rattle.afp_serial.specs.Rows.{effect, row}
 use Rattle.afp_serial.specs.SessionToken.{old_session_in, rejoins}
 use Rattle.afp_serial.specs.VolumeRows.{changes_volume, with_edits}
-use Rattle.afp_serial.specs.World.{CallRow, at_moment, closing, ending, volume_at, with_empty_reply, World, Session}
+use Rattle.afp_serial.specs.World.{CallRow, at_moment, closing, ending, user_of, volume_at, with_empty_reply, World, Session}
 use Rattle.afp_base.specs.declared.code.Code.{Code}
 use Rattle.volume_spec.specs.CreateDir.{create_dir_id}
 use Rattle.volume_spec.specs.CreateFile.{is_hard}
@@ -82,8 +82,8 @@ edits-draw laws v now edits = record { next = laws.next v now edits; gone = λ i
     by id drawn none false is = is
     by id drawn none true is = absurd (both_ways (has_node v.rows id) none (laws.old v now edits id drawn is))
 
-tree-draws : DrawLaws → (v : VolumeState) (now : ℕ) (call : TreeCall) → DrawsOnce v (tree_effect v now call)
-tree-draws laws v now call = subst (DrawsOnce v) (laws.tree v now call) (edits-draw laws v now (call_edits v now (volume_call call)))
+tree-draws : DrawLaws → (v : VolumeState) (user now : ℕ) (call : TreeCall) → DrawsOnce v (tree_effect v user now call)
+tree-draws laws v user now call = subst (DrawsOnce v) (laws.tree v user now call) (edits-draw laws v now (call_edits v user now (volume_call call)))
 
 fork-draws : DrawLaws → (v : VolumeState) (now id : ℕ) (resource : Bool) (bytes : List ℕ) → DrawsOnce v (fork_effect now id resource bytes true v)
 fork-draws laws v now id resource bytes = subst (DrawsOnce v) (laws.forks v now id resource bytes) (edits-draw laws v now (Writes now id resource bytes ∷ []))
@@ -119,35 +119,35 @@ record RowDraws (row : CallRow) : Type 0 where
 keeps-volumes : (row : CallRow) → ((w : World) (s : Session) → (row.effect w s).world.volumes ≡ w.volumes) → RowDraws row
 keeps-volumes row same = record { draws = λ w s. same-draws w (row.effect w s).world (same w s) }
 
-tells : (volume : ℕ) (refuses : World → VolumeState → Option Code) (reply : World → VolumeState → Reply) → RowDraws (tells_of volume refuses reply)
+tells : (volume : ℕ) (refuses : World → Session → VolumeState → Option Code) (reply : World → Session → VolumeState → Reply) → RowDraws (tells_of volume refuses reply)
 tells volume refuses reply =
-    keeps-volumes (tells_of volume refuses reply) (λ w s. done-keeps (λ x. x.volumes ≡ w.volumes) (volume_at w.volumes volume) w (λ v. record { world = w; reply = reply w v }) refl (λ v. refl))
+    keeps-volumes (tells_of volume refuses reply) (λ w s. done-keeps (λ x. x.volumes ≡ w.volumes) (volume_at w.volumes volume) w (λ v. record { world = w; reply = reply w s v }) refl (λ v. refl))
 
 tree : DrawLaws → (volume : ℕ) (call : TreeCall) (reply : VolumeState → Reply) (w : World) (s : Session) → DrawIdsOnce w ((changes_tree volume call reply).effect w s).world
 tree laws volume call reply w s = by (volume_at w.volumes volume) refl
   where
-    by : (q : Option VolumeState) → volume_at w.volumes volume ≡ q → DrawIdsOnce w (done_on q w (λ v. record { world = with_volume_state w volume (tree_effect v w.latest call); reply = reply v })).world
+    by : (q : Option VolumeState) → volume_at w.volumes volume ≡ q → DrawIdsOnce w (done_on q w (λ v. record { world = with_volume_state w volume (tree_effect v (user_of s) w.latest call); reply = reply v })).world
     by None is = same-draws w w refl
-    by (Some v) is = state-draws w volume v (tree_effect v w.latest call) is (tree-draws laws v w.latest call)
+    by (Some v) is = state-draws w volume v (tree_effect v (user_of s) w.latest call) is (tree-draws laws v (user_of s) w.latest call)
 
 -- edits of a volume
 edited-draws : DrawLaws → (w : World) (volume : ℕ) (v : VolumeState) (edits : List Edit) → volume_at w.volumes volume ≡ Some v → DrawIdsOnce w (with_edits w volume v edits)
 edited-draws laws w volume v [] is = same-draws w w refl
 edited-draws laws w volume v (e ∷ es) is = state-draws w volume v (after_call v w.latest (e ∷ es)) is (edits-draw laws v w.latest (e ∷ es))
 
-edits : DrawLaws → (volume : ℕ) (change : VolumeCall) (reply : VolumeState → Reply) (w : World) (s : Session) → DrawIdsOnce w ((changes_volume volume change reply).effect w s).world
+edits : DrawLaws → (volume : ℕ) (change : VolumeCall) (reply : ℕ → VolumeState → Reply) (w : World) (s : Session) → DrawIdsOnce w ((changes_volume volume change reply).effect w s).world
 edits laws volume change reply w s = by (volume_at w.volumes volume) refl
   where
-    by : (q : Option VolumeState) → volume_at w.volumes volume ≡ q → DrawIdsOnce w (done_on q w (λ v. record { world = with_edits w volume v (call_edits v w.latest change); reply = reply v })).world
+    by : (q : Option VolumeState) → volume_at w.volumes volume ≡ q → DrawIdsOnce w (done_on q w (λ v. record { world = with_edits w volume v (call_edits v (user_of s) w.latest change); reply = reply (user_of s) v })).world
     by None is = same-draws w w refl
-    by (Some v) is = edited-draws laws w volume v (call_edits v w.latest change) is
+    by (Some v) is = edited-draws laws w volume v (call_edits v (user_of s) w.latest change) is
 
 copy : DrawLaws → (asked : CopyAsked) (w : World) (s : Session) → DrawIdsOnce w ((copies asked).effect w s).world
 copy laws asked w s = by (volume_at w.volumes asked.target) refl
   where
-    by : (q : Option VolumeState) → volume_at w.volumes asked.target ≡ q → DrawIdsOnce w (done_on q w (λ v. with_empty_reply (with_edits w asked.target v (copy_edits w asked (source_of w asked) v)))).world
+    by : (q : Option VolumeState) → volume_at w.volumes asked.target ≡ q → DrawIdsOnce w (done_on q w (λ v. with_empty_reply (with_edits w asked.target v (copy_edits w (user_of s) asked (source_of w (user_of s) asked) v)))).world
     by None is = same-draws w w refl
-    by (Some v) is = edited-draws laws w asked.target v (copy_edits w asked (source_of w asked) v) is
+    by (Some v) is = edited-draws laws w asked.target v (copy_edits w (user_of s) asked (source_of w (user_of s) asked) v) is
 
 -- other bytes in a fork that is open
 bytes-draw : DrawLaws → (w : World) (s : Session) (reference : ℕ) (f : OpenFile) (some : Bool) (bytes : List ℕ) → open_file w s reference ≡ Some f → DrawIdsOnce w (with_bytes w f some bytes)
@@ -203,7 +203,7 @@ call-draws laws w s (calls.MapID function id) = same-draws w w refl
 call-draws laws w s (calls.MapName function name) = same-draws w w refl
 call-draws laws w s (calls.MoveAndRename volume dir target_dir path target_path new_path) = tree laws volume.0 (trees.MoveAndRename dir.0 path target_dir.0 target_path new_path) (λ v. Empty) w s
 call-draws laws w s (calls.OpenDir volume dir path) = let r : RowDraws (open_dir_row volume.0 dir.0 path) = tells volume.0 _ _ in r.draws w s
-call-draws laws w s (calls.OpenFork flag volume dir bits mode path) = let r : RowDraws (open_fork_row flag volume.0 dir.0 bits mode path) = keeps-volumes (open_fork_row flag volume.0 dir.0 bits mode path) (λ w s. (opened-volumes w s (record { volume = volume.0; bits = bits; resource = is_resource flag; access = access_of mode }) (file_asked (volume_at w.volumes volume.0) dir.0 path))) in r.draws w s
+call-draws laws w s (calls.OpenFork flag volume dir bits mode path) = let r : RowDraws (open_fork_row flag volume.0 dir.0 bits mode path) = keeps-volumes (open_fork_row flag volume.0 dir.0 bits mode path) (λ w s. (opened-volumes w s (record { volume = volume.0; bits = bits; resource = is_resource flag; access = access_of mode }) (file_asked (volume_at w.volumes volume.0) (user_of s) dir.0 path))) in r.draws w s
 call-draws laws w s (calls.OpenVol bits name) = let r : RowDraws (open_vol_row bits name) = keeps-volumes (open_vol_row bits name) (λ w s. (opens-keeps (λ x. x.volumes ≡ w.volumes) w s bits (volume_named w name) (state_named w (volume_named w name)) refl (λ v. refl))) in r.draws w s
 call-draws laws w s (calls.Read reference offset count mask character) = let r : RowDraws (read_row reference.0 offset count mask character) = keeps-volumes (read_row reference.0 offset count mask character) (λ w s. (all-reads reference.0 (record { offset = offset; count = pos count; mask = mask; character = character }) w s)) in r.draws w s
 call-draws laws w s (calls.ReadExt reference offset count) = let r : RowDraws (read_ext_row reference.0 offset count) = keeps-volumes (read_ext_row reference.0 offset count) (λ w s. (all-reads reference.0 (record { offset = offset; count = count; mask = 0; character = 0 }) w s)) in r.draws w s
@@ -215,21 +215,21 @@ call-draws laws w s (calls.SetForkParms reference bits rest) = set-length laws r
 call-draws laws w s (calls.SetVolParms volume bits rest) = tree laws volume.0 (trees.SetVolParms bits rest) (λ v. Empty) w s
 call-draws laws w s (calls.Write flag reference offset count piece) = write laws reference.0 (record { from_end = is_from_end flag; offset = offset; count = pos count; piece = piece }) (λ end. End end) w s
 call-draws laws w s (calls.WriteExt flag reference offset count piece) = write laws reference.0 (record { from_end = is_from_end flag; offset = offset; count = count; piece = piece }) (λ end. EndExt end) w s
-call-draws laws w s (calls.AddAPPL dt dir creator tag path) = edits laws dt (volumes.AddAPPL dir.0 creator tag path) (λ v. Empty) w s
-call-draws laws w s (calls.AddComment dt dir path comment) = edits laws dt (volumes.AddComment dir.0 path comment) (λ v. Empty) w s
-call-draws laws w s (calls.AddIcon dt creator kind icon_kind tag size piece) = edits laws dt (volumes.AddIcon (icon_of creator kind icon_kind tag piece)) (λ v. Empty) w s
+call-draws laws w s (calls.AddAPPL dt dir creator tag path) = edits laws dt (volumes.AddAPPL dir.0 creator tag path) (λ user v. Empty) w s
+call-draws laws w s (calls.AddComment dt dir path comment) = edits laws dt (volumes.AddComment dir.0 path comment) (λ user v. Empty) w s
+call-draws laws w s (calls.AddIcon dt creator kind icon_kind tag size piece) = edits laws dt (volumes.AddIcon (icon_of creator kind icon_kind tag piece)) (λ user v. Empty) w s
 call-draws laws w s (calls.CloseDT dt) = let r : RowDraws (close_dt_row dt) = tells dt _ _ in r.draws w s
 call-draws laws w s (calls.CopyFile volume dir target_volume target_dir path target_path new_path) = copy laws (record { volume = volume.0; dir = dir.0; path = path; target = target_volume.0; target_dir = target_dir.0; target_path = target_path; new_path = new_path }) w s
-call-draws laws w s (calls.CreateID volume dir path) = edits laws volume.0 (volumes.CreateID dir.0 path) (λ v. open_dir_reply (created_id v dir.0 path)) w s
-call-draws laws w s (calls.DeleteID volume id) = edits laws volume.0 (volumes.DeleteID id.0) (λ v. Empty) w s
-call-draws laws w s (calls.ExchangeFiles volume dir second_dir path second_path) = edits laws volume.0 (volumes.ExchangeFiles dir.0 path second_dir.0 second_path) (λ v. Empty) w s
+call-draws laws w s (calls.CreateID volume dir path) = edits laws volume.0 (volumes.CreateID dir.0 path) (λ user v. open_dir_reply (created_id v user dir.0 path)) w s
+call-draws laws w s (calls.DeleteID volume id) = edits laws volume.0 (volumes.DeleteID id.0) (λ user v. Empty) w s
+call-draws laws w s (calls.ExchangeFiles volume dir second_dir path second_path) = edits laws volume.0 (volumes.ExchangeFiles dir.0 path second_dir.0 second_path) (λ user v. Empty) w s
 call-draws laws w s (calls.GetAPPL dt creator index bits) = let r : RowDraws (get_appl_row dt creator index bits) = tells dt _ _ in r.draws w s
 call-draws laws w s (calls.GetComment dt dir path) = let r : RowDraws (get_comment_row dt dir.0 path) = tells dt _ _ in r.draws w s
 call-draws laws w s (calls.GetIcon dt creator kind icon_kind count) = let r : RowDraws (get_icon_row dt creator kind icon_kind count) = tells dt _ _ in r.draws w s
 call-draws laws w s (calls.GetIconInfo dt creator index) = let r : RowDraws (get_icon_info_row dt creator index) = tells dt _ _ in r.draws w s
 call-draws laws w s (calls.OpenDT volume) = let r : RowDraws (open_dt_row volume.0) = tells volume.0 _ _ in r.draws w s
-call-draws laws w s (calls.RemoveAPPL dt dir creator path) = edits laws dt (volumes.RemoveAPPL dir.0 creator path) (λ v. Empty) w s
-call-draws laws w s (calls.RemoveComment dt dir path) = edits laws dt (volumes.RemoveComment dir.0 path) (λ v. Empty) w s
+call-draws laws w s (calls.RemoveAPPL dt dir creator path) = edits laws dt (volumes.RemoveAPPL dir.0 creator path) (λ user v. Empty) w s
+call-draws laws w s (calls.RemoveComment dt dir path) = edits laws dt (volumes.RemoveComment dir.0 path) (λ user v. Empty) w s
 call-draws laws w s (calls.ResolveID volume id bits) = let r : RowDraws (resolve_id_row volume.0 id.0 bits) = tells volume.0 _ _ in r.draws w s
 call-draws laws w s calls.Logout = let r : RowDraws logout_row = keeps-volumes logout_row (λ w s. refl) in r.draws w s
 call-draws laws w s call = same-draws w w refl

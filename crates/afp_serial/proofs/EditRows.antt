@@ -5,7 +5,7 @@ use Rattle.std.proofs.lemmas.Bool.{and_from, and_parts, le-leb, ltb-true}
 use Rattle.std.proofs.lemmas.List.{length-take}
 use Rattle.afp_base.specs.declared.code.Code.{Code}
 use Rattle.afp_base.specs.Choice.{first_holding}
-use Rattle.afp_base.specs.declared.code.Code.TheVariants.{IDExists, ObjectTypeErr}
+use Rattle.afp_base.specs.declared.code.Code.TheVariants.{AccessDenied, IDExists, ObjectTypeErr}
 use Rattle.afp_base.specs.declared.ids.NodeId.{NodeId}
 use Rattle.afp_base.specs.declared.ids.VolumeId.{VolumeId}
 use Rattle.afp_names.specs.Path.{PathValue}
@@ -18,7 +18,7 @@ use Rattle.afp_serial.proofs.LawfulCalls.{enclosed-lawful, field-lawful}
 use Rattle.afp_serial.proofs.OnVolumeRows.{Asks, IsToldTo}
 use Rattle.afp_serial.proofs.SoundRow.{IsSoundRow}
 use Rattle.afp_serial.proofs.ToldReplies.{empty-told, node-told-to}
-use Rattle.afp_serial.proofs.VolumeCodes.{add-appl-refuses, add-comment-refuses, add-icon-refuses, comment-there-refuses, create-id-refuses, delete-id-refuses, remove-appl-refuses}
+use Rattle.afp_serial.proofs.VolumeCodes.{add-appl-refuses, add-comment-refuses, add-icon-refuses, create-id-refuses, delete-id-refuses, remove-appl-refuses, remove-comment-refuses}
 use Rattle.afp_serial.proofs.VolumeRows.{edits-row-sound}
 use Rattle.afp_serial.proofs.VolumeStates.{IsServed}
 use Rattle.afp_serial.specs.Appls.{add_appl_row, remove_appl_row}
@@ -33,7 +33,8 @@ use Rattle.volume_spec.proofs.Walks.{row-there}
 use Rattle.volume_spec.specs.Desktop.{icon_of}
 use Rattle.volume_spec.specs.EditRanges.{is_typed_volume_call}
 use Rattle.volume_spec.specs.FileIds.{create_id_refusal, created_id, is_filed}
-use Rattle.volume_spec.specs.Shared.{behind, done_at}
+use Rattle.volume_spec.specs.Rights.{write_right}
+use Rattle.volume_spec.specs.Shared.{behind, done_at, lacks_above}
 use Rattle.volume_spec.specs.SoundVolume.{code_size, has_file, is_icon, longest_icon}
 use Rattle.volume_spec.specs.TypedVolume.{are_bytes, is_byte, is_long, is_typed_icon, is_typed_row}
 use Rattle.volume_spec.specs.VolumeCalls.{AddAPPL, AddComment, AddIcon, CreateID, DeleteID, RemoveAPPL, RemoveComment, is_formed_call}
@@ -46,21 +47,21 @@ use Rattle.std.proofs.lemmas.Bool.{eqb-true}
 -- FPCreateID
 
 -- the id of a node that was found is small
-node-small : (v : VolumeState) (volume dir id : ℕ) (path : PathValue) → IsServed v volume → found v.rows dir path ≡ Ok id → id < 4294967296
+node-small : (v : VolumeState) (volume user dir id : ℕ) (path : PathValue) → IsServed v volume → found v.rows user dir path ≡ Ok id → id < 4294967296
 unfolding row_at
-node-small v volume dir id path served is =
-    let row = row-there v.rows id (node-there v dir id path is served.sound) in
+node-small v volume user dir id path served is =
+    let row = row-there v.rows id (node-there v user dir id path is served.sound) in
     let typed = row-parts row.0 (find-all (λ (r : Row). r.id == id) is_typed_row v.rows row.0 row.1 (typed-parts v served.typed).rows) in
     let same : row.0.id ≡ id = eqb-true row.0.id id (find-passes (λ (r : Row). r.id == id) v.rows row.0 row.1) in
     let small : row.0.id < 4294967296 = ltb-true row.0.id 4294967296 typed.id in
     omega (arith, same, small)
 
-id-told : (call : Call) (v : VolumeState) (volume dir : ℕ) (path : PathValue) → ((n : NodeId) → Asks call (Node n)) → IsServed v volume → create_id_refusal v dir path ≡ None → IsToldTo call (open_dir_reply (created_id v dir path))
+id-told : (call : Call) (v : VolumeState) (volume user dir : ℕ) (path : PathValue) → ((n : NodeId) → Asks call (Node n)) → IsServed v volume → create_id_refusal v user dir path ≡ None → IsToldTo call (open_dir_reply (created_id v user dir path))
 unfolding create_id_refusal created_id
-id-told call v volume dir path asks served passes = by (found v.rows dir path) refl passes
+id-told call v volume user dir path asks served passes = by (found v.rows user dir path) refl passes
   where
-    by : (r : Result ℕ Code) → found v.rows dir path ≡ r → behind r (λ id. first_holding ((not (has_file v.rows id), ObjectTypeErr) ∷ (is_filed v.rows id, IDExists) ∷ [])) ≡ None → IsToldTo call (open_dir_reply (done_at r None Some))
-    by (Ok id) is h = node-told-to call id asks (node-small v volume dir id path served is)
+    by : (r : Result ℕ Code) → found v.rows user dir path ≡ r → behind r (λ id. first_holding ((not (has_file v.rows id), ObjectTypeErr) ∷ (lacks_above v.rows user write_right id, AccessDenied) ∷ (is_filed v.rows id, IDExists) ∷ [])) ≡ None → IsToldTo call (open_dir_reply (done_at r None Some))
+    by (Ok id) is h = node-told-to call id asks (node-small v volume user dir id path served is)
     by (Err code) is h = absurd (cc)
 
 create-id-asks : (volume : VolumeId) (dir : NodeId) (path : PathValue) (n : NodeId) → Asks (calls.CreateID volume dir path) (Node n)
@@ -69,9 +70,9 @@ create-id-asks volume dir path n = refl
 
 pub create-id-sound : (volume : VolumeId) (dir : NodeId) (path : PathValue) → IsSoundRow (calls.CreateID volume dir path) (create_id_row volume.0 dir.0 path)
 create-id-sound volume dir path =
-    edits-row-sound (calls.CreateID volume dir path) volume.0 (CreateID dir.0 path) _ (λ v w. create-id-refuses v dir.0 path)
+    edits-row-sound (calls.CreateID volume dir path) volume.0 (CreateID dir.0 path) _ (λ v user w. create-id-refuses v user dir.0 path)
     (λ lawful. (refl, refl))
-    (λ w v served passes. id-told (calls.CreateID volume dir path) v volume.0 dir.0 path (create-id-asks volume dir path) served passes)
+    (λ w user v served passes. id-told (calls.CreateID volume dir path) v volume.0 user dir.0 path (create-id-asks volume dir path) served passes)
 
 -- FPDeleteID
 
@@ -81,9 +82,9 @@ delete-id-asks volume id = refl
 
 pub delete-id-sound : (volume : VolumeId) (id : NodeId) → IsSoundRow (calls.DeleteID volume id) (delete_id_row volume.0 id.0)
 delete-id-sound volume id =
-    edits-row-sound (calls.DeleteID volume id) volume.0 (DeleteID id.0) _ (λ v w. delete-id-refuses v id.0)
+    edits-row-sound (calls.DeleteID volume id) volume.0 (DeleteID id.0) _ (λ v user w. delete-id-refuses v user id.0)
     (λ lawful. (refl, refl))
-    (λ w v served passes. empty-told (calls.DeleteID volume id) (delete-id-asks volume id))
+    (λ w user v served passes. empty-told (calls.DeleteID volume id) (delete-id-asks volume id))
 
 -- FPAddIcon
 
@@ -108,9 +109,9 @@ icon-ranges dt creator kind icon_kind tag size piece lawful =
 
 pub add-icon-sound : (dt : ℕ) (creator kind : List ℕ) (icon_kind tag size : ℕ) (piece : List ℕ) → IsSoundRow (calls.AddIcon dt creator kind icon_kind tag size piece) (add_icon_row dt creator kind icon_kind tag piece)
 add-icon-sound dt creator kind icon_kind tag size piece =
-    edits-row-sound (calls.AddIcon dt creator kind icon_kind tag size piece) dt (AddIcon (icon_of creator kind icon_kind tag piece)) _ (λ v w. add-icon-refuses v (icon_of creator kind icon_kind tag piece))
+    edits-row-sound (calls.AddIcon dt creator kind icon_kind tag size piece) dt (AddIcon (icon_of creator kind icon_kind tag piece)) _ (λ v user w. add-icon-refuses v (icon_of creator kind icon_kind tag piece))
     (λ lawful. icon-ranges dt creator kind icon_kind tag size piece lawful)
-    (λ w v served passes. empty-told (calls.AddIcon dt creator kind icon_kind tag size piece) (add-icon-asks dt creator kind icon_kind tag size piece))
+    (λ w user v served passes. empty-told (calls.AddIcon dt creator kind icon_kind tag size piece) (add-icon-asks dt creator kind icon_kind tag size piece))
 
 -- FPAddAPPL
 
@@ -127,9 +128,9 @@ appl-ranges dt dir creator tag path lawful =
 
 pub add-appl-sound : (dt : ℕ) (dir : NodeId) (creator : List ℕ) (tag : ℕ) (path : PathValue) → IsSoundRow (calls.AddAPPL dt dir creator tag path) (add_appl_row dt dir.0 creator tag path)
 add-appl-sound dt dir creator tag path =
-    edits-row-sound (calls.AddAPPL dt dir creator tag path) dt (AddAPPL dir.0 creator tag path) _ (λ v w. add-appl-refuses v dir.0 creator path)
+    edits-row-sound (calls.AddAPPL dt dir creator tag path) dt (AddAPPL dir.0 creator tag path) _ (λ v user w. add-appl-refuses v user dir.0 creator path)
     (λ lawful. appl-ranges dt dir creator tag path lawful)
-    (λ w v served passes. empty-told (calls.AddAPPL dt dir creator tag path) (add-appl-asks dt dir creator tag path))
+    (λ w user v served passes. empty-told (calls.AddAPPL dt dir creator tag path) (add-appl-asks dt dir creator tag path))
 
 -- FPRemoveAPPL
 
@@ -139,9 +140,9 @@ remove-appl-asks dt dir creator path = refl
 
 pub remove-appl-sound : (dt : ℕ) (dir : NodeId) (creator : List ℕ) (path : PathValue) → IsSoundRow (calls.RemoveAPPL dt dir creator path) (remove_appl_row dt dir.0 creator path)
 remove-appl-sound dt dir creator path =
-    edits-row-sound (calls.RemoveAPPL dt dir creator path) dt (RemoveAPPL dir.0 creator path) _ (λ v w. remove-appl-refuses v dir.0 creator path)
+    edits-row-sound (calls.RemoveAPPL dt dir creator path) dt (RemoveAPPL dir.0 creator path) _ (λ v user w. remove-appl-refuses v user dir.0 creator path)
     (λ lawful. (refl, refl))
-    (λ w v served passes. empty-told (calls.RemoveAPPL dt dir creator path) (remove-appl-asks dt dir creator path))
+    (λ w user v served passes. empty-told (calls.RemoveAPPL dt dir creator path) (remove-appl-asks dt dir creator path))
 
 -- FPAddComment
 
@@ -151,9 +152,9 @@ add-comment-asks dt dir path text = refl
 
 pub add-comment-sound : (dt : ℕ) (dir : NodeId) (path : PathValue) (text : List ℕ) → IsSoundRow (calls.AddComment dt dir path text) (add_comment_row dt dir.0 path text)
 add-comment-sound dt dir path text =
-    edits-row-sound (calls.AddComment dt dir path text) dt (AddComment dir.0 path text) _ (λ v w. add-comment-refuses v dir.0 path)
+    edits-row-sound (calls.AddComment dt dir path text) dt (AddComment dir.0 path text) _ (λ v user w. add-comment-refuses v user dir.0 path)
     (λ lawful. (refl, field-lawful (calls.AddComment dt dir path text) 6 (str text) lawful refl))
-    (λ w v served passes. empty-told (calls.AddComment dt dir path text) (add-comment-asks dt dir path text))
+    (λ w user v served passes. empty-told (calls.AddComment dt dir path text) (add-comment-asks dt dir path text))
 
 -- FPRemoveComment
 
@@ -163,6 +164,6 @@ remove-comment-asks dt dir path = refl
 
 pub remove-comment-sound : (dt : ℕ) (dir : NodeId) (path : PathValue) → IsSoundRow (calls.RemoveComment dt dir path) (remove_comment_row dt dir.0 path)
 remove-comment-sound dt dir path =
-    edits-row-sound (calls.RemoveComment dt dir path) dt (RemoveComment dir.0 path) _ (λ v w. comment-there-refuses v dir.0 path)
+    edits-row-sound (calls.RemoveComment dt dir path) dt (RemoveComment dir.0 path) _ (λ v user w. remove-comment-refuses v user dir.0 path)
     (λ lawful. (refl, refl))
-    (λ w v served passes. empty-told (calls.RemoveComment dt dir path) (remove-comment-asks dt dir path))
+    (λ w user v served passes. empty-told (calls.RemoveComment dt dir path) (remove-comment-asks dt dir path))

@@ -56,44 +56,44 @@ gentle-be id v now (e ∷ es) gentle resource bytes h = edits-be id v (e ∷ es)
 -- those of calls
 
 abbrev pub IsGentle : VolumeCall → Type 0
-IsGentle change = (v : VolumeState) (now : ℕ) → list_all is_gentle (call_edits v now change) ≡ true
+IsGentle change = (v : VolumeState) (user now : ℕ) → list_all is_gentle (call_edits v user now change) ≡ true
 
 abbrev Gentle : List Edit → Type 0
 Gentle es = list_all is_gentle es ≡ true
 
 pub copy-gentle : (source : Source) (dir : ℕ) (path new : PathValue) → IsGentle (CopyFile source dir path new)
 unfolding call_edits
-copy-gentle source dir path new v now =
-    at-each Gentle (found v.rows dir path) [] _ refl (λ target is. at-each Gentle (one_down_or source.file.name new.steps) [] _ refl (λ name down. refl))
+copy-gentle source dir path new v user now =
+    at-each Gentle (found v.rows user dir path) [] _ refl (λ target is. at-each Gentle (one_down_or source.file.name new.steps) [] _ refl (λ name down. refl))
 
 pub create-id-gentle : (dir : ℕ) (path : PathValue) → IsGentle (CreateID dir path)
 unfolding call_edits
-create-id-gentle dir path v now = at-each Gentle (found v.rows dir path) [] _ refl (λ id is. refl)
+create-id-gentle dir path v user now = at-each Gentle (found v.rows user dir path) [] _ refl (λ id is. refl)
 
 pub delete-id-gentle : (id : ℕ) → IsGentle (DeleteID id)
 unfolding call_edits
-delete-id-gentle id v now = refl
+delete-id-gentle id v user now = refl
 
 pub add-icon-gentle : (icon : Icon) → IsGentle (AddIcon icon)
 unfolding call_edits
-add-icon-gentle icon v now = refl
+add-icon-gentle icon v user now = refl
 
 pub add-appl-gentle : (dir : ℕ) (creator : List ℕ) (tag : ℕ) (path : PathValue) → IsGentle (AddAPPL dir creator tag path)
 unfolding call_edits
-add-appl-gentle dir creator tag path v now = at-each Gentle (found v.rows dir path) [] _ refl (λ id is. refl)
+add-appl-gentle dir creator tag path v user now = at-each Gentle (found v.rows user dir path) [] _ refl (λ id is. refl)
 
 pub remove-appl-gentle : (dir : ℕ) (creator : List ℕ) (path : PathValue) → IsGentle (RemoveAPPL dir creator path)
 unfolding call_edits
-remove-appl-gentle dir creator path v now = at-each Gentle (found v.rows dir path) [] _ refl (λ id is. refl)
+remove-appl-gentle dir creator path v user now = at-each Gentle (found v.rows user dir path) [] _ refl (λ id is. refl)
 
 pub add-comment-gentle : (dir : ℕ) (path : PathValue) (text : List ℕ) → IsGentle (AddComment dir path text)
 unfolding call_edits
-add-comment-gentle dir path text v now =
-    at-each Gentle (found v.rows dir path) [] _ refl (λ id is. cond_both (does_comment v id text) (CommentEdit id text ∷ []) [] Gentle (λ some. refl) (λ none. refl))
+add-comment-gentle dir path text v user now =
+    at-each Gentle (found v.rows user dir path) [] _ refl (λ id is. cond_both (does_comment v id text) (CommentEdit id text ∷ []) [] Gentle (λ some. refl) (λ none. refl))
 
 pub remove-comment-gentle : (dir : ℕ) (path : PathValue) → IsGentle (RemoveComment dir path)
 unfolding call_edits
-remove-comment-gentle dir path v now = at-each Gentle (found v.rows dir path) [] _ refl (λ id is. refl)
+remove-comment-gentle dir path v user now = at-each Gentle (found v.rows user dir path) [] _ refl (λ id is. refl)
 
 -- another row in the place of one
 

@@ -15,7 +15,7 @@ use Rattle.afp_serial.specs.ForkHistory.{bytes_in}
 use Rattle.afp_serial.specs.OnFork.{bytes_of, file_under, open_file, own_fork}
 use Rattle.afp_serial.specs.OnVolume.{done_on, with_volume_state}
 use Rattle.afp_serial.specs.VolumeRows.{with_edits}
-use Rattle.afp_serial.specs.World.{Effect, volume_at, World, OpenFork}
+use Rattle.afp_serial.specs.World.{Effect, user_of, volume_at, World, OpenFork}
 use Rattle.afp_serial.specs.WriteLaws.{ExchangesKeepBytes, ExchangesKeepOpens, bytes_under, opened_as}
 use Rattle.volume_spec.specs.Edit.{Exchanges, after_call}
 use Rattle.volume_spec.specs.EditLaws.{MayExchange}
@@ -41,15 +41,15 @@ opened-turned volume (Some pair) (o ∷ os) = ap (λ l. opened_as o ∷ l) (open
 
 pub exchanges-keep-opens : ExchangesKeepOpens
 exchanges-keep-opens w s volume dir second_dir path second_path = (
-  opened-turned volume (pair_on (volume_at w.volumes volume) dir path second_dir second_path) (done_on (volume_at w.volumes volume) w does).world.opens ∙ ap (map opened_as) (kept (λ x. x.opens ≡ w.opens) refl (λ new. refl)),
+  opened-turned volume (pair_on (volume_at w.volumes volume) (user_of s) dir path second_dir second_path) (done_on (volume_at w.volumes volume) w does).world.opens ∙ ap (map opened_as) (kept (λ x. x.opens ≡ w.opens) refl (λ new. refl)),
   kept (λ x. x.locks ≡ w.locks) refl (λ new. refl),
 )
   where
     does : VolumeState → Effect
-    does v = record { world = with_edits w volume v (call_edits v w.latest (ExchangeFiles dir path second_dir second_path)); reply = Empty }
+    does v = record { world = with_edits w volume v (call_edits v (user_of s) w.latest (ExchangeFiles dir path second_dir second_path)); reply = Empty }
 
     kept : (P : World → Type 0) → P w → ((new : VolumeState) → P (with_volume_state w volume new)) → P (done_on (volume_at w.volumes volume) w does).world
-    kept P h gives = done-keeps P (volume_at w.volumes volume) w does h (λ v. edits-keep P w volume v (call_edits v w.latest (ExchangeFiles dir path second_dir second_path)) h gives)
+    kept P h gives = done-keeps P (volume_at w.volumes volume) w does h (λ v. edits-keep P w volume v (call_edits v (user_of s) w.latest (ExchangeFiles dir path second_dir second_path)) h gives)
 
 pub exchanges-keep : ExchangesKeepBytes
 unfolding open_file

@@ -18,12 +18,12 @@ use Rattle.afp_serial.proofs.ExchangeRow.{Exchanged, exchanged-left}
 use Rattle.afp_serial.proofs.ExchangedForks.{exchanged-elsewhere, exchanged-first, exchanged-neither, exchanged-second}
 use Rattle.afp_serial.proofs.ForkCommits.{all-locks, all-reads, done-volumes, opened-volumes}
 use Rattle.afp_serial.proofs.OnForkRows.{IsHeld, IsHeldFile, held-file, sound-file}
-use Rattle.afp_serial.proofs.OnVolumeRows.{done-keeps, on-passes}
+use Rattle.afp_serial.proofs.OnVolumeRows.{done-keeps, else-none, on-passes}
 use Rattle.afp_serial.proofs.OpenForkBytes.{Has, tree-lets-be}
 use Rattle.afp_serial.proofs.OpenVolRow.{opens-keeps}
 use Rattle.afp_serial.proofs.VolumeStates.{state-at, state-other}
 use Rattle.afp_serial.proofs.Written.{bytes-seen, other-bytes}
-use Rattle.afp_serial.specs.World.{CallRow, with_empty_reply, closing, volume_at, World, Session, OpenFork}
+use Rattle.afp_serial.specs.World.{CallRow, with_empty_reply, closing, user_of, volume_at, World, Session, OpenFork}
 use Rattle.afp_serial.specs.Fork.{access_of, close_fork_row, file_asked, flush_fork_row, get_fork_parms_reply, get_fork_parms_row, is_other_length, length_for, open_fork_row, set_fork_parms_row}
 use Rattle.afp_serial.specs.ForkBytes.{WriteAsked, is_from_end, read_ext_row, read_row, write_end, write_start, writes, writes_some, written_bytes}
 use Rattle.afp_serial.specs.Appls.{get_appl_row}
@@ -35,7 +35,7 @@ use Rattle.afp_serial.specs.ForkHistory.{becomes_all, bytes_in, bytes_on, change
 use Rattle.afp_serial.specs.Icons.{get_icon_info_row, get_icon_row}
 use Rattle.afp_serial.specs.Lock.{byte_range_lock_ext_row, byte_range_lock_row, lock_asked}
 use Rattle.afp_serial.specs.OnFork.{OpenFile, bytes_of, done_with, file_on, file_under, open_file, own_fork, with_bytes}
-use Rattle.afp_serial.specs.OnVolume.{changes_tree, done_on, opened_on, tells_of, with_state, with_volume_state}
+use Rattle.afp_serial.specs.OnVolume.{changes_tree, changes_tree_unless, done_on, opened_on, tells_of, with_state, with_volume_state}
 use Rattle.afp_serial.specs.OpenVol.{open_vol_row, state_named, volume_named}
 use Rattle.afp_serial.specs.SessionToken.{disconnect_old_session_row, old_session_in, rejoins}
 use Rattle.afp_serial.specs.Rows.{effect, refusal, row}
@@ -50,10 +50,12 @@ use Rattle.afp_serial.specs.GetVolParms.{get_vol_parms_row}
 use Rattle.afp_serial.specs.Login.{login_ext_row, login_row}
 use Rattle.afp_serial.specs.OpenDT.{close_dt_row, open_dt_row}
 use Rattle.afp_serial.specs.OpenDir.{close_dir_row, open_dir_reply, open_dir_row}
+use Rattle.afp_serial.specs.Users.{user_ids}
 use Rattle.afp_serial.specs.VolumeRows.{changes_volume, with_edits}
 use Rattle.afp_base.specs.declared.code.Code.{Code}
 use Rattle.volume_spec.proofs.ForkEffects.{fork-given, fork-lets-be}
-use Rattle.volume_spec.specs.Shared.{Opened, is_busy}
+use Rattle.volume_spec.specs.SetFileDirParms.{set_dir_parms_behind}
+use Rattle.volume_spec.specs.Shared.{Opened, is_busy, refused_else}
 use Rattle.volume_spec.specs.CopyFile.{Source}
 use Rattle.volume_spec.specs.CreateDir.{create_dir_id}
 use Rattle.volume_spec.specs.CreateFile.{is_hard}
@@ -112,40 +114,43 @@ record LeavesForks (row : CallRow) : Type 0 where
 keeps-volumes : (row : CallRow) → ((w : World) (s : Session) → (row.effect w s).world.volumes ≡ w.volumes) → LeavesForks row
 keeps-volumes row same = record { leaves = λ w s fork bytes there passes h. same-volumes w (row.effect w s).world fork bytes (same w s) h }
 
-tells-leave : (volume : ℕ) (refuses : World → VolumeState → Option Code) (reply : World → VolumeState → Reply) → LeavesForks (tells_of volume refuses reply)
+tells-leave : (volume : ℕ) (refuses : World → Session → VolumeState → Option Code) (reply : World → Session → VolumeState → Reply) → LeavesForks (tells_of volume refuses reply)
 tells-leave volume refuses reply =
-    keeps-volumes (tells_of volume refuses reply) (λ w s. done-keeps (λ x. x.volumes ≡ w.volumes) (volume_at w.volumes volume) w (λ v. record { world = w; reply = reply w v }) refl (λ v. refl))
+    keeps-volumes (tells_of volume refuses reply) (λ w s. done-keeps (λ x. x.volumes ≡ w.volumes) (volume_at w.volumes volume) w (λ v. record { world = w; reply = reply w s v }) refl (λ v. refl))
+
+tree-leaves-unless : (behind : World → Option Code) (volume : ℕ) (tree : TreeCall) (reply : VolumeState → Reply) → LeavesForks (changes_tree_unless behind volume tree reply)
+tree-leaves-unless behind volume tree reply = record {
+  leaves = λ w s fork bytes there passes h.
+      let p = on-passes w s volume (λ v. refused_else (behind w) (tree_refusal v (user_of s) (opened_on w volume) tree)) passes in
+      subst (λ o. bytes_in (done_on o w (λ v. record { world = with_volume_state w volume (tree_effect v (user_of s) w.latest tree); reply = reply v })).world fork ≡ Some bytes) (sym p.there)
+      (state-bytes w volume p.state (tree_effect p.state (user_of s) w.latest tree) fork bytes p.there
+      (λ same had. tree-lets-be p.state (user_of s) (opened_on w volume) w.latest tree fork.node (else-none (behind w) _ p.passes) (ap (λ n. is_busy (opened_on w n) fork.node) (sym same) ∙ busy-open w fork there) fork.resource bytes had) h);
+}
 
 tree-leaves : (volume : ℕ) (tree : TreeCall) (reply : VolumeState → Reply) → LeavesForks (changes_tree volume tree reply)
-tree-leaves volume tree reply = record {
-  leaves = λ w s fork bytes there passes h.
-      let p = on-passes w s volume (λ v. tree_refusal v (opened_on w volume) tree) passes in
-      subst (λ o. bytes_in (done_on o w (λ v. record { world = with_volume_state w volume (tree_effect v w.latest tree); reply = reply v })).world fork ≡ Some bytes) (sym p.there)
-      (state-bytes w volume p.state (tree_effect p.state w.latest tree) fork bytes p.there
-      (λ same had. tree-lets-be p.state (opened_on w volume) w.latest tree fork.node p.passes (ap (λ n. is_busy (opened_on w n) fork.node) (sym same) ∙ busy-open w fork there) fork.resource bytes had) h);
-}
+tree-leaves volume tree reply = tree-leaves-unless (λ w. None) volume tree reply
 
 edits-leave : (w : World) (volume : ℕ) (v : VolumeState) (edits : List Edit) (fork : Fork) (bytes : List ℕ) → list_all is_gentle edits ≡ true → volume_at w.volumes volume ≡ Some v → bytes_in w fork ≡ Some bytes → bytes_in (with_edits w volume v edits) fork ≡ Some bytes
 edits-leave w volume v [] fork bytes gentle is h = h
 edits-leave w volume v (e ∷ es) fork bytes gentle is h = state-bytes w volume v (after_call v w.latest (e ∷ es)) fork bytes is (λ same had. gentle-be fork.node v w.latest (e ∷ es) gentle fork.resource bytes had) h
 
-changes-leave : (volume : ℕ) (change : VolumeCall) (reply : VolumeState → Reply) → IsGentle change → LeavesForks (changes_volume volume change reply)
-changes-leave volume change reply gentle = record { leaves = λ w s fork bytes there passes h. by w fork bytes h (volume_at w.volumes volume) refl }
+changes-leave : (volume : ℕ) (change : VolumeCall) (reply : ℕ → VolumeState → Reply) → IsGentle change → LeavesForks (changes_volume volume change reply)
+changes-leave volume change reply gentle = record { leaves = λ w s fork bytes there passes h. by w (user_of s) fork bytes h (volume_at w.volumes volume) refl }
   where
-    by : (w : World) (fork : Fork) (bytes : List ℕ) → bytes_in w fork ≡ Some bytes → (q : Option VolumeState) → volume_at w.volumes volume ≡ q
-        → bytes_in (done_on q w (λ v. record { world = with_edits w volume v (call_edits v w.latest change); reply = reply v })).world fork ≡ Some bytes
-    by w fork bytes h None is = h
-    by w fork bytes h (Some v) is = edits-leave w volume v (call_edits v w.latest change) fork bytes (gentle v w.latest) is h
+    by : (w : World) (user : ℕ) (fork : Fork) (bytes : List ℕ) → bytes_in w fork ≡ Some bytes → (q : Option VolumeState) → volume_at w.volumes volume ≡ q
+        → bytes_in (done_on q w (λ v. record { world = with_edits w volume v (call_edits v user w.latest change); reply = reply user v })).world fork ≡ Some bytes
+    by w user fork bytes h None is = h
+    by w user fork bytes h (Some v) is = edits-leave w volume v (call_edits v user w.latest change) fork bytes (gentle v user w.latest) is h
 
 copies-leave : (asked : CopyAsked) → LeavesForks (copies asked)
-copies-leave asked = record { leaves = λ w s fork bytes there passes h. by w fork bytes h (source_of w asked) (volume_at w.volumes asked.target) refl }
+copies-leave asked = record { leaves = λ w s fork bytes there passes h. by w (user_of s) fork bytes h (source_of w (user_of s) asked) (volume_at w.volumes asked.target) refl }
   where
-    by : (w : World) (fork : Fork) (bytes : List ℕ) → bytes_in w fork ≡ Some bytes → (source : Option Source) (q : Option VolumeState) → volume_at w.volumes asked.target ≡ q
-        → bytes_in (done_on q w (λ v. with_empty_reply (with_edits w asked.target v (copy_edits w asked source v)))).world fork ≡ Some bytes
-    by w fork bytes h source None is = h
-    by w fork bytes h None (Some v) is = h
-    by w fork bytes h (Some source) (Some v) is =
-        edits-leave w asked.target v (call_edits v w.latest (copy_call asked source)) fork bytes (copy-gentle source asked.target_dir asked.target_path asked.new_path v w.latest) is h
+    by : (w : World) (user : ℕ) (fork : Fork) (bytes : List ℕ) → bytes_in w fork ≡ Some bytes → (source : Option Source) (q : Option VolumeState) → volume_at w.volumes asked.target ≡ q
+        → bytes_in (done_on q w (λ v. with_empty_reply (with_edits w asked.target v (copy_edits w user asked source v)))).world fork ≡ Some bytes
+    by w user fork bytes h source None is = h
+    by w user fork bytes h None (Some v) is = h
+    by w user fork bytes h (Some source) (Some v) is =
+        edits-leave w asked.target v (call_edits v user w.latest (copy_call asked source)) fork bytes (copy-gentle source asked.target_dir asked.target_path asked.new_path v user w.latest) is h
 
 open-vol-leaves : (bits : ℕ) (name : List ℕ) → LeavesForks (open_vol_row bits name)
 open-vol-leaves bits name = keeps-volumes (open_vol_row bits name) (λ w s. opens-keeps (λ x. x.volumes ≡ w.volumes) w s bits (volume_named w name) (state_named w (volume_named w name)) refl (λ v. refl))
@@ -281,7 +286,7 @@ get-fork-parms-leaves reference bits = keeps-volumes (get_fork_parms_row referen
 
 open-fork-leaves : (flag volume dir bits mode : ℕ) (path : PathValue) → LeavesForks (open_fork_row flag volume dir bits mode path)
 open-fork-leaves flag volume dir bits mode path =
-    keeps-volumes (open_fork_row flag volume dir bits mode path) (λ w s. opened-volumes w s (record { volume = volume; bits = bits; resource = is_resource flag; access = access_of mode }) (file_asked (volume_at w.volumes volume) dir path))
+    keeps-volumes (open_fork_row flag volume dir bits mode path) (λ w s. opened-volumes w s (record { volume = volume; bits = bits; resource = is_resource flag; access = access_of mode }) (file_asked (volume_at w.volumes volume) (user_of s) dir path))
 
 read-leaves : (reference : ℕ) (offset : ℤ) (count mask character : ℕ) → LeavesForks (read_row reference offset count mask character)
 read-leaves reference offset count mask character =
@@ -365,12 +370,12 @@ module _ (w : World) (volume : ℕ) (v new : VolumeState) (pair : Pair) (one two
 
 pub exchange-changes : (volume dir second_dir : ℕ) (path second_path : PathValue) (w : World) (s : Session) (fork : Fork) (bytes : List ℕ) → IsSound w
     → first_holding ((exchange_files_row volume dir second_dir path second_path).refusals w s) ≡ None → bytes_in w fork ≡ Some bytes
-    → bytes_in ((exchange_files_row volume dir second_dir path second_path).effect w s).world fork ≡ Some (changed_by_all (exchanged_for w volume fork (pair_on (volume_at w.volumes volume) dir path second_dir second_path)) bytes)
+    → bytes_in ((exchange_files_row volume dir second_dir path second_path).effect w s).world fork ≡ Some (changed_by_all (exchanged_for w volume fork (pair_on (volume_at w.volumes volume) (user_of s) dir path second_dir second_path)) bytes)
 exchange-changes volume dir second_dir path second_path w s fork bytes h passes had =
     let e : Exchanged volume dir second_dir path second_path w s = exchanged-left volume dir second_dir path second_path w s passes h in
     let pair : Pair = e.exchange.pair in
     let may : MayExchange e.state pair.first pair.second = e.exchange.may in
-    let is : pair_on (volume_at w.volumes volume) dir path second_dir second_path ≡ Some pair = ap (λ o. pair_on o dir path second_dir second_path) e.there ∙ e.exchange.is in
+    let is : pair_on (volume_at w.volumes volume) (user_of s) dir path second_dir second_path ≡ Some pair = ap (λ o. pair_on o (user_of s) dir path second_dir second_path) e.there ∙ e.exchange.is in
     ap (λ x. bytes_in x fork) e.left
     ∙ pair-changes w volume e.state (after_call e.state w.latest (Exchanges pair.first pair.second ∷ [])) pair may.first may.second e.there may.first_found may.second_found (pair-exchanged e.state w.latest pair may) fork bytes had
     ∙ ap (λ q. Some (changed_by_all (exchanged_for w volume fork q) bytes)) (sym is)
@@ -413,28 +418,28 @@ call-changes w s fork bytes h there had (calls.OpenVol bits name) passes = let l
 call-changes w s fork bytes h there had (calls.Read reference offset count mask character) passes = (read-leaves reference.0 offset count mask character).leaves w s fork bytes there passes had
 call-changes w s fork bytes h there had (calls.ReadExt reference offset count) passes = (read-ext-leaves reference.0 offset count).leaves w s fork bytes there passes had
 call-changes w s fork bytes h there had (calls.Rename volume dir path new_path) passes = (tree-leaves volume.0 (trees.Rename dir.0 path new_path) (λ v. Empty)).leaves w s fork bytes there passes had
-call-changes w s fork bytes h there had (calls.SetDirParms volume dir bits path rest) passes = (tree-leaves volume.0 (trees.SetDirParms dir.0 bits path rest) (λ v. Empty)).leaves w s fork bytes there passes had
+call-changes w s fork bytes h there had (calls.SetDirParms volume dir bits path rest) passes = (tree-leaves-unless (λ w. set_dir_parms_behind (user_ids w.house.users) bits rest) volume.0 (trees.SetDirParms dir.0 bits path rest) (λ v. Empty)).leaves w s fork bytes there passes had
 call-changes w s fork bytes h there had (calls.SetFileDirParms volume dir bits path rest) passes = (tree-leaves volume.0 (trees.SetFileDirParms dir.0 bits path rest) (λ v. Empty)).leaves w s fork bytes there passes had
 call-changes w s fork bytes h there had (calls.SetFileParms volume dir bits path rest) passes = (tree-leaves volume.0 (trees.SetFileParms dir.0 bits path rest) (λ v. Empty)).leaves w s fork bytes there passes had
 call-changes w s fork bytes h there had (calls.SetForkParms reference bits rest) passes = length-changes reference.0 bits rest w s fork bytes h had
 call-changes w s fork bytes h there had (calls.SetVolParms volume bits rest) passes = (tree-leaves volume.0 (trees.SetVolParms bits rest) (λ v. Empty)).leaves w s fork bytes there passes had
 call-changes w s fork bytes h there had (calls.Write flag reference offset count piece) passes = write-changes reference.0 (record { from_end = is_from_end flag; offset = offset; count = pos count; piece = piece }) (λ end. End end) w s fork bytes h had
 call-changes w s fork bytes h there had (calls.WriteExt flag reference offset count piece) passes = write-changes reference.0 (record { from_end = is_from_end flag; offset = offset; count = count; piece = piece }) (λ end. EndExt end) w s fork bytes h had
-call-changes w s fork bytes h there had (calls.AddAPPL dt dir creator tag path) passes = (changes-leave dt (volumes.AddAPPL dir.0 creator tag path) (λ v. Empty) (add-appl-gentle dir.0 creator tag path)).leaves w s fork bytes there passes had
-call-changes w s fork bytes h there had (calls.AddComment dt dir path comment) passes = (changes-leave dt (volumes.AddComment dir.0 path comment) (λ v. Empty) (add-comment-gentle dir.0 path comment)).leaves w s fork bytes there passes had
-call-changes w s fork bytes h there had (calls.AddIcon dt creator kind icon_kind tag size piece) passes = (changes-leave dt (volumes.AddIcon (icon_of creator kind icon_kind tag piece)) (λ v. Empty) (add-icon-gentle (icon_of creator kind icon_kind tag piece))).leaves w s fork bytes there passes had
+call-changes w s fork bytes h there had (calls.AddAPPL dt dir creator tag path) passes = (changes-leave dt (volumes.AddAPPL dir.0 creator tag path) (λ user v. Empty) (add-appl-gentle dir.0 creator tag path)).leaves w s fork bytes there passes had
+call-changes w s fork bytes h there had (calls.AddComment dt dir path comment) passes = (changes-leave dt (volumes.AddComment dir.0 path comment) (λ user v. Empty) (add-comment-gentle dir.0 path comment)).leaves w s fork bytes there passes had
+call-changes w s fork bytes h there had (calls.AddIcon dt creator kind icon_kind tag size piece) passes = (changes-leave dt (volumes.AddIcon (icon_of creator kind icon_kind tag piece)) (λ user v. Empty) (add-icon-gentle (icon_of creator kind icon_kind tag piece))).leaves w s fork bytes there passes had
 call-changes w s fork bytes h there had (calls.CloseDT dt) passes = let l : LeavesForks (close_dt_row dt) = tells-leave dt _ _ in l.leaves w s fork bytes there passes had
 call-changes w s fork bytes h there had (calls.CopyFile volume dir target_volume target_dir path target_path new_path) passes = (copies-leave (record { volume = volume.0; dir = dir.0; path = path; target = target_volume.0; target_dir = target_dir.0; target_path = target_path; new_path = new_path })).leaves w s fork bytes there passes had
-call-changes w s fork bytes h there had (calls.CreateID volume dir path) passes = (changes-leave volume.0 (volumes.CreateID dir.0 path) (λ v. open_dir_reply (created_id v dir.0 path)) (create-id-gentle dir.0 path)).leaves w s fork bytes there passes had
-call-changes w s fork bytes h there had (calls.DeleteID volume id) passes = (changes-leave volume.0 (volumes.DeleteID id.0) (λ v. Empty) (delete-id-gentle id.0)).leaves w s fork bytes there passes had
+call-changes w s fork bytes h there had (calls.CreateID volume dir path) passes = (changes-leave volume.0 (volumes.CreateID dir.0 path) (λ user v. open_dir_reply (created_id v user dir.0 path)) (create-id-gentle dir.0 path)).leaves w s fork bytes there passes had
+call-changes w s fork bytes h there had (calls.DeleteID volume id) passes = (changes-leave volume.0 (volumes.DeleteID id.0) (λ user v. Empty) (delete-id-gentle id.0)).leaves w s fork bytes there passes had
 call-changes w s fork bytes h there had (calls.ExchangeFiles volume dir second_dir path second_path) passes = exchange-changes volume.0 dir.0 second_dir.0 path second_path w s fork bytes h passes had
 call-changes w s fork bytes h there had (calls.GetAPPL dt creator index bits) passes = let l : LeavesForks (get_appl_row dt creator index bits) = tells-leave dt _ _ in l.leaves w s fork bytes there passes had
 call-changes w s fork bytes h there had (calls.GetComment dt dir path) passes = let l : LeavesForks (get_comment_row dt dir.0 path) = tells-leave dt _ _ in l.leaves w s fork bytes there passes had
 call-changes w s fork bytes h there had (calls.GetIcon dt creator kind icon_kind count) passes = let l : LeavesForks (get_icon_row dt creator kind icon_kind count) = tells-leave dt _ _ in l.leaves w s fork bytes there passes had
 call-changes w s fork bytes h there had (calls.GetIconInfo dt creator index) passes = let l : LeavesForks (get_icon_info_row dt creator index) = tells-leave dt _ _ in l.leaves w s fork bytes there passes had
 call-changes w s fork bytes h there had (calls.OpenDT volume) passes = let l : LeavesForks (open_dt_row volume.0) = tells-leave volume.0 _ _ in l.leaves w s fork bytes there passes had
-call-changes w s fork bytes h there had (calls.RemoveAPPL dt dir creator path) passes = (changes-leave dt (volumes.RemoveAPPL dir.0 creator path) (λ v. Empty) (remove-appl-gentle dir.0 creator path)).leaves w s fork bytes there passes had
-call-changes w s fork bytes h there had (calls.RemoveComment dt dir path) passes = (changes-leave dt (volumes.RemoveComment dir.0 path) (λ v. Empty) (remove-comment-gentle dir.0 path)).leaves w s fork bytes there passes had
+call-changes w s fork bytes h there had (calls.RemoveAPPL dt dir creator path) passes = (changes-leave dt (volumes.RemoveAPPL dir.0 creator path) (λ user v. Empty) (remove-appl-gentle dir.0 creator path)).leaves w s fork bytes there passes had
+call-changes w s fork bytes h there had (calls.RemoveComment dt dir path) passes = (changes-leave dt (volumes.RemoveComment dir.0 path) (λ user v. Empty) (remove-comment-gentle dir.0 path)).leaves w s fork bytes there passes had
 call-changes w s fork bytes h there had (calls.ResolveID volume id bits) passes = let l : LeavesForks (resolve_id_row volume.0 id.0 bits) = tells-leave volume.0 _ _ in l.leaves w s fork bytes there passes had
 call-changes w s fork bytes h there had calls.Logout passes = had
 call-changes w s fork bytes h there had call passes = had

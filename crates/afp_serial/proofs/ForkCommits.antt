@@ -3,7 +3,7 @@ use Rattle.std.proofs.Common.{◌≡◌, refl, ℕ, zero, suc, pos, Bool, true, 
 use Rattle.std.specs.Prelude.{◌==◌}
 use Rattle.afp_replies.specs.declared.reply.Reply.{Reply}
 use Rattle.afp_replies.specs.declared.reply.Reply.TheVariants.{End, EndExt, Start, StartExt}
-use Rattle.afp_serial.specs.World.{Effect, with_empty_reply, closing, volume_at, World, Session, OpenFork}
+use Rattle.afp_serial.specs.World.{Effect, with_empty_reply, closing, volume_at, World, Session, OpenFork, user_of}
 use Rattle.afp_serial.specs.Fork.{OpenAsked, access_of, file_asked, get_fork_parms_reply, is_other_length, length_for, opens_fork}
 use Rattle.afp_serial.specs.ForkBytes.{ReadAsked, WriteAsked, is_from_end, read_reply, write_end, writes, writes_some, written_bytes}
 use Rattle.afp_serial.specs.ForkLaws.{CommitsChanges, OthersLeaveVolumes, ThreeChangeVolumes}
@@ -63,7 +63,7 @@ all-reads reference asked w s = done-volumes w (open_file w s reference) _ (λ f
 
 pub others-leave : OthersLeaveVolumes
 others-leave flag volume dir bits mode reference n mask character path offset count = (
-  λ w s. opened-volumes w s (record { volume = volume; bits = bits; resource = is_resource flag; access = access_of mode }) (file_asked (volume_at w.volumes volume) dir path),
+  λ w s. opened-volumes w s (record { volume = volume; bits = bits; resource = is_resource flag; access = access_of mode }) (file_asked (volume_at w.volumes volume) (user_of s) dir path),
   λ w s. done-volumes w (open_file w s reference) (λ f. with_empty_reply (closing w (λ o. not (o.reference == reference)))) (λ f. refl),
   λ w s. done-volumes w (open_file w s reference) (λ f. with_empty_reply w) (λ f. refl),
   λ w s. done-volumes w (open_file w s reference) (λ f. record { world = w; reply = get_fork_parms_reply bits w f }) (λ f. refl),

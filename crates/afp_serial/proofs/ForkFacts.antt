@@ -128,14 +128,14 @@ denial-fits w flag volume dir bits mode path asked v file same served f inside =
 }
 
 pub denial-shown : DenialIsShown
-denial-shown w flag volume dir bits mode path resource access file h inside is = by (volume_at w.volumes volume.0) refl is
+denial-shown w user flag volume dir bits mode path resource access file h inside is = by (volume_at w.volumes volume.0) refl is
   where
-    by : (q : Option VolumeState) → volume_at w.volumes volume.0 ≡ q → file_asked q dir.0 path ≡ Some file
+    by : (q : Option VolumeState) → volume_at w.volumes volume.0 ≡ q → file_asked q user dir.0 path ≡ Some file
         → Shows (opened_reply w (record { volume = volume.0; bits = bits; resource = resource; access = access }) 0 file) (reply_kind (calls.OpenFork flag volume dir bits mode path)) DenyConflict (canonical_reply (opened_reply w (record { volume = volume.0; bits = bits; resource = resource; access = access }) 0 file))
     by None there k = absurd (cc)
     by (Some v) there k =
         what_fits_a_request (opened_reply w (record { volume = volume.0; bits = bits; resource = resource; access = access }) 0 file) (reply_kind (calls.OpenFork flag volume dir bits mode path)) DenyConflict
-        (denial-fits w flag volume dir bits mode path (record { volume = volume.0; bits = bits; resource = resource; access = access }) v file refl (served-at w volume.0 v h there) (found-file v dir.0 path file k) inside)
+        (denial-fits w flag volume dir bits mode path (record { volume = volume.0; bits = bits; resource = resource; access = access }) v file refl (served-at w volume.0 v h there) (found-file v user dir.0 path file k) inside)
 
 -- bytes behind the last one
 

@@ -38,7 +38,7 @@ use Rattle.volume_spec.specs.NodeValues.{dir_values, file_values, node_values}
 use Rattle.volume_spec.specs.OpenFork.{fork_values}
 use Rattle.volume_spec.specs.SoundVolume.{IsSoundVolume}
 use Rattle.volume_spec.specs.TypedVolume.{is_typed_volume}
-use Rattle.volume_spec.specs.VolumeState.{Row as File, VolumeState}
+use Rattle.volume_spec.specs.VolumeState.{Row as File, VolumeState, guest}
 use Rattle.volume_spec.specs.Walk.{row_at}
 
 -- FPCloseFork
@@ -78,8 +78,8 @@ flush-fork-sound reference = fork-row-sound (FlushFork reference) reference.0 _ 
 pub file-answer : (v : VolumeState) (opens : List Opened) (bits id : ℕ) (file : File) → row_at v.rows id ≡ Some file → file.dir ≡ false → IsSoundVolume v → is_typed_volume v ≡ true → IsAnswer 1 bits (fork_values opens bits file)
 unfolding node_values
 file-answer v opens bits id file found is_file sound typed =
-    subst (λ (dir : Bool). IsAnswer (cond dir 2 1) (cond dir bits bits) (cond dir (Dir (dir_values v.rows bits file)) (FileParams (file_values opens bits file)))) is_file
-    (node-told v opens bits bits id file found sound typed)
+    subst (λ (dir : Bool). IsAnswer (cond dir 2 1) (cond dir bits bits) (cond dir (Dir (dir_values v.rows guest bits file)) (FileParams (file_values opens bits file)))) is_file
+    (node-told v guest opens bits bits id file found sound typed)
 
 pub file-params-told : (call : Call) (bits : ℕ) (file : FileValues) → Asks call (Params bits (FileParams file)) → IsAnswer 1 bits (FileParams file) → is_outside file_mask bits ≡ false → IsToldTo call (Params bits (FileParams file))
 file-params-told call bits file asks answer inside =

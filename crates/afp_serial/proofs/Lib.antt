@@ -4,6 +4,7 @@ pub mod HouseFields
 pub mod StatusParts
 pub mod Grows
 pub mod SoundParts
+pub mod SessionUsers
 pub mod Closed
 pub mod Replaced
 pub mod OtherPlaces

@@ -39,18 +39,18 @@ bits-are : (d : Bool) (a : DirValues) (b : FileValues) (file_bits dir_bits : ℕ
 bits-are true a b file_bits dir_bits = refl
 bits-are false a b file_bits dir_bits = refl
 
-params-are : (rows : List Row) (opens : List Opened) (file_bits dir_bits : ℕ) (row : Row)
-    → node_params file_bits dir_bits (node_values rows opens file_bits dir_bits row) ≡ params (bits_of file_bits dir_bits row) (node_values rows opens file_bits dir_bits row)
+params-are : (rows : List Row) (user : ℕ) (opens : List Opened) (file_bits dir_bits : ℕ) (row : Row)
+    → node_params file_bits dir_bits (node_values rows user opens file_bits dir_bits row) ≡ params (bits_of file_bits dir_bits row) (node_values rows user opens file_bits dir_bits row)
 unfolding node_values
-params-are rows opens file_bits dir_bits row =
-    ap (λ bits. params bits (cond row.dir (Dir (dir_values rows dir_bits row)) (File (file_values opens file_bits row)))) (bits-are row.dir (dir_values rows dir_bits row) (file_values opens file_bits row) file_bits dir_bits)
+params-are rows user opens file_bits dir_bits row =
+    ap (λ bits. params bits (cond row.dir (Dir (dir_values rows user dir_bits row)) (File (file_values opens file_bits row)))) (bits-are row.dir (dir_values rows user dir_bits row) (file_values opens file_bits row) file_bits dir_bits)
 
 entry-length : (rows : List Row) (opens : List Opened) (asked : ListAsked) (row : Row) → length (entry_bytes asked.wide asked.file_bits asked.dir_bits (list_entry rows opens asked row)) ≡ entry_size rows opens asked row
 unfolding entry_size
 entry-length rows opens asked row =
-    let v : Values = node_values rows opens asked.file_bits asked.dir_bits row in
+    let v : Values = node_values rows asked.user opens asked.file_bits asked.dir_bits row in
     head-length asked.wide (head_size asked.wide + length (node_params asked.file_bits asked.dir_bits v)) (flag_of (is_dir v)) (node_params asked.file_bits asked.dir_bits v)
-    ∙ ap (λ block. entry_head asked.wide + length block) (params-are rows opens asked.file_bits asked.dir_bits row)
+    ∙ ap (λ block. entry_head asked.wide + length block) (params-are rows asked.user opens asked.file_bits asked.dir_bits row)
 
 entries-length : (rows : List Row) (opens : List Opened) (asked : ListAsked) (nodes : List Row)
     → length (concat (map (entry_bytes asked.wide asked.file_bits asked.dir_bits) (map (list_entry rows opens asked) nodes))) ≡ sum_by (entry_size rows opens asked) nodes
@@ -84,10 +84,10 @@ one-fits : (v : VolumeState) (opens : List Opened) (asked : ListAsked) (id : ℕ
     → nat_le (entry_size v.rows opens asked row) (longest_entry asked.wide) ≡ true → FitsEntry asked.wide asked.file_bits asked.dir_bits (list_entry v.rows opens asked row)
 unfolding node_values entry_size
 one-fits v opens asked id row s t there short = record {
-  answer = node-answer row.dir (dir_values v.rows asked.dir_bits row) (file_values opens asked.file_bits row) asked.file_bits asked.dir_bits
-      (node-told v opens asked.file_bits asked.dir_bits row.id row (entries-are-there v opens asked id row s there) s t);
-  small = small-entry asked.wide (length (node_params asked.file_bits asked.dir_bits (node_values v.rows opens asked.file_bits asked.dir_bits row))) (entry_size v.rows opens asked row)
-      (ap (λ block. entry_head asked.wide + length block) (params-are v.rows opens asked.file_bits asked.dir_bits row)) short;
+  answer = node-answer row.dir (dir_values v.rows asked.user asked.dir_bits row) (file_values opens asked.file_bits row) asked.file_bits asked.dir_bits
+      (node-told v asked.user opens asked.file_bits asked.dir_bits row.id row (entries-are-there v opens asked id row s there) s t);
+  small = small-entry asked.wide (length (node_params asked.file_bits asked.dir_bits (node_values v.rows asked.user opens asked.file_bits asked.dir_bits row))) (entry_size v.rows opens asked row)
+      (ap (λ block. entry_head asked.wide + length block) (params-are v.rows asked.user opens asked.file_bits asked.dir_bits row)) short;
 }
 
 all-fit : (v : VolumeState) (opens : List Opened) (asked : ListAsked) (nodes : List Row) → list_all (λ node. nat_le (entry_size v.rows opens asked node) (longest_entry asked.wide)) nodes ≡ true

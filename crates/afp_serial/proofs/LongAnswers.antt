@@ -36,7 +36,7 @@ use Rattle.afp_serial.specs.OpenVol.{open_vol_reply, opens_volume, state_named, 
 use Rattle.afp_serial.specs.Rows.{effect, row}
 use Rattle.afp_serial.specs.SessionToken.{old_session_in, rejoins}
 use Rattle.afp_serial.specs.Sound.{IsSound}
-use Rattle.afp_serial.specs.World.{Effect, plain, refused_before, volume_at, World, Session}
+use Rattle.afp_serial.specs.World.{Effect, plain, refused_before, volume_at, World, Session, user_of}
 use Rattle.volume_spec.proofs.Formed.{formed-parts}
 use Rattle.afp_base.proofs.ListFacts.{find-all}
 use Rattle.volume_spec.specs.FileIds.{created_id}
@@ -113,12 +113,12 @@ opened-short w asked reference v file served f =
     let whole : length (canonical_reply (Opened asked.bits (fork_ref reference) (FileParams values))) ≡ suc (suc (suc (suc (length (params asked.bits (FileParams values) ++ []))))) = refl in
     omega (arith, size, end, whole)
 
-open-short : (w : World) (s : Session) (asked : OpenAsked) (dir : ℕ) (path : PathValue) → IsSound w → first_holding ((opens_asked asked dir path).refusals w s) ≡ None → Within 612 (opens_fork w s asked (file_asked (volume_at w.volumes asked.volume) dir path)).reply
+open-short : (w : World) (s : Session) (asked : OpenAsked) (dir : ℕ) (path : PathValue) → IsSound w → first_holding ((opens_asked asked dir path).refusals w s) ≡ None → Within 612 (opens_fork w s asked (file_asked (volume_at w.volumes asked.volume) (user_of s) dir path)).reply
 open-short w s asked dir path h passes =
     let o = opens-passed w s asked dir path h passes in
-    let is : file_asked (volume_at w.volumes asked.volume) dir path ≡ Some o.file = ap (λ q. file_asked q dir path) o.there ∙ o.is in
+    let is : file_asked (volume_at w.volumes asked.volume) (user_of s) dir path ≡ Some o.file = ap (λ q. file_asked q (user_of s) dir path) o.there ∙ o.is in
     subst (λ q. Within 612 (opens_fork w s asked q).reply) (sym is)
-    (opened-short (with_fork w (new_fork w s asked o.file)) asked (new_fork w s asked o.file).reference o.state o.file (served-at w asked.volume o.state h o.there) (found-file o.state dir path o.file o.is))
+    (opened-short (with_fork w (new_fork w s asked o.file)) asked (new_fork w s asked o.file).reference o.state o.file (served-at w asked.volume o.state h o.there) (found-file o.state (user_of s) dir path o.file o.is))
 
 -- FPOpenVol
 
@@ -187,7 +187,7 @@ long-tells w s (CloseVol volume) h passes = short-row w s (CloseVol volume) 0 (o
 long-tells w s (CopyFile volume dir target_volume target_dir path target_path new_path) h passes = short-row w s (CopyFile volume dir target_volume target_dir path target_path new_path) 0 (on-volume-short 0 w (volume_at w.volumes target_volume.0) _ (λ v. omega arith))
 long-tells w s (CreateDir volume dir path) h passes = short-row w s (CreateDir volume dir path) 4 (on-volume-short 4 w (volume_at w.volumes volume.0) _ (λ v. u32-short 4 (create_dir_id v) (omega arith)))
 long-tells w s (CreateFile flag volume dir path) h passes = short-row w s (CreateFile flag volume dir path) 0 (on-volume-short 0 w (volume_at w.volumes volume.0) _ (λ v. omega arith))
-long-tells w s (CreateID volume dir path) h passes = short-row w s (CreateID volume dir path) 4 (on-volume-short 4 w (volume_at w.volumes volume.0) _ (λ v. found-short (created_id v dir.0 path)))
+long-tells w s (CreateID volume dir path) h passes = short-row w s (CreateID volume dir path) 4 (on-volume-short 4 w (volume_at w.volumes volume.0) _ (λ v. found-short (created_id v (user_of s) dir.0 path)))
 long-tells w s (Delete volume dir path) h passes = short-row w s (Delete volume dir path) 0 (on-volume-short 0 w (volume_at w.volumes volume.0) _ (λ v. omega arith))
 long-tells w s (DeleteID volume id) h passes = short-row w s (DeleteID volume id) 0 (on-volume-short 0 w (volume_at w.volumes volume.0) _ (λ v. omega arith))
 long-tells w s (DisconnectOldSession kind token) h passes = short-row w s (DisconnectOldSession kind token) 0 (rejoins-short w s (old_session_in w s token))

@@ -6,9 +6,9 @@ use Rattle.afp_base.specs.declared.code.Code.{Code}
 use Rattle.afp_base.specs.declared.code.Code.TheVariants.{AccessDenied, DirNotEmpty, DiskFull, FileBusy, ObjectExists, ObjectLocked, ObjectTypeErr}
 use Rattle.afp_names.specs.Name.{name_key}
 use Rattle.afp_names.specs.Path.{PathValue}
-use Rattle.volume_spec.proofs.Refusals.{at-found, none-holds}
+use Rattle.volume_spec.proofs.Refusals.{at-found, none-first, none-holds}
 use Rattle.volume_spec.proofs.SeenRows.{changes-let-be, changes-seen, gone-lets-be}
-use Rattle.volume_spec.specs.Shared.{Opened, created, delete_inhibit, directory_of, done_at, has_attribute, has_no_ids, is_busy, name_of}
+use Rattle.volume_spec.specs.Shared.{Opened, created, delete_inhibit, directory_of, done_at, has_attribute, has_no_ids, is_busy, name_of, lacks_above}
 use Rattle.volume_spec.specs.CreateDir.{create_dir_effect}
 use Rattle.volume_spec.specs.CreateFile.{create_file_effect, create_file_refusal, create_file_there, without_replaced}
 use Rattle.volume_spec.specs.Delete.{delete_effect, delete_refusal}
@@ -22,6 +22,7 @@ use Rattle.volume_spec.specs.TreeSteps.{TreeCall, CreateDir, CreateFile, Delete,
 use Rattle.volume_spec.specs.VolumeState.{Row as File, VolumeState, root_id, new_row}
 use Rattle.volume_spec.specs.Walk.{Place, child_by_key, found, has_directory, new_place, one_down, one_down_or, row_at}
 use Rattle.volume_spec.proofs.OpenFiles.{another}
+use Rattle.volume_spec.specs.Rights.{lacks, write_right}
 
 -- the fork of a node has these bytes
 abbrev pub Has : ℕ → Bool → List ℕ → VolumeState → Type 0
@@ -79,67 +80,68 @@ modified-keeps now = record { ids = λ row. refl; forks = λ resource row. refl 
 touched-be : (id : ℕ) (v w : VolumeState) (now dir : ℕ) → LetsBe id v w → LetsBe id v (changed_at now (children_changed now dir w))
 touched-be id v w now dir l resource bytes h = changed-be id w dir (modified_at now) (modified-keeps now) resource bytes (l resource bytes h)
 
-created-be : (id : ℕ) (v w : VolumeState) (dir : Bool) (now : ℕ) (place : Place) → LetsBe id v w → LetsBe id v (created dir now w place)
-created-be id v w dir now place l =
-    touched-be id v (with_new dir place.dir place.name now w) now place.dir (λ resource bytes h. new-be id w (new_row dir w.next_id place.dir place.name now) resource bytes (l resource bytes h))
+created-be : (id : ℕ) (v w : VolumeState) (dir : Bool) (user now : ℕ) (place : Place) → LetsBe id v w → LetsBe id v (created dir user now w place)
+created-be id v w dir user now place l =
+    touched-be id v (with_new dir user place.dir place.name now w) now place.dir (λ resource bytes h. new-be id w (new_row dir user w.next_id place.dir place.name now) resource bytes (l resource bytes h))
 
 -- what is done with what was found, if something was
 done-be : {A : Type 0} (id : ℕ) (v : VolumeState) (r : Result A Code) (does : A → VolumeState) → ((a : A) → LetsBe id v (does a)) → LetsBe id v (done_at r v does)
 done-be id v (Ok a) does gives = gives a
 done-be id v (Err code) does gives = λ resource bytes h. h
 
-create-file-be : (id : ℕ) (v : VolumeState) (opens : List Opened) (hard : Bool) (now dir : ℕ) (path : PathValue) → is_busy opens id ≡ true → create_file_refusal v opens hard dir path ≡ None → LetsBe id v (create_file_effect v now dir path)
+create-file-be : (id : ℕ) (v : VolumeState) (user : ℕ) (opens : List Opened) (hard : Bool) (now dir : ℕ) (path : PathValue) → is_busy opens id ≡ true → create_file_refusal v user opens hard dir path ≡ None → LetsBe id v (create_file_effect v user now dir path)
 unfolding create_file_refusal create_file_effect
-create-file-be id v opens hard now dir path busy passes =
-    at-found (LetsBe id v) (new_place v.rows dir path) _ v _ passes (λ place is clear. by-old place (child_by_key v.rows place.dir (name_key place.name)) clear)
+create-file-be id v user opens hard now dir path busy passes =
+    at-found (LetsBe id v) (new_place v.rows user dir path) _ v _ passes (λ place is clear. by-old place (child_by_key v.rows place.dir (name_key place.name))
+    (none-first ((lacks v.rows user write_right place.dir, AccessDenied) ∷ []) _ clear).1)
   where
-    by-old : (place : Place) (o : Option ℕ) → create_file_there v opens hard o ≡ None → LetsBe id v (created false now (without_replaced v o) place)
-    by-old place None clear = created-be id v v false now place (λ resource bytes h. h)
+    by-old : (place : Place) (o : Option ℕ) → create_file_there v opens hard o ≡ None → LetsBe id v (created false user now (without_replaced v o) place)
+    by-old place None clear = created-be id v v false user now place (λ resource bytes h. h)
     by-old place (Some old) clear =
         let none = none-holds ((has_directory v.rows old, ObjectTypeErr) ∷ (not hard, ObjectExists) ∷ (is_busy opens old, FileBusy) ∷ (has_attribute v.rows delete_inhibit old, ObjectLocked) ∷ (has_no_ids v, DiskFull) ∷ []) clear in
-        created-be id v (without_node old v) false now place (without-be id v old (another opens id old busy none.1.1.0))
+        created-be id v (without_node old v) false user now place (without-be id v old (another opens id old busy none.1.1.0))
 
-delete-be : (id : ℕ) (v : VolumeState) (opens : List Opened) (now dir : ℕ) (path : PathValue) → is_busy opens id ≡ true → delete_refusal v opens dir path ≡ None → LetsBe id v (delete_effect v now dir path)
+delete-be : (id : ℕ) (v : VolumeState) (user : ℕ) (opens : List Opened) (now dir : ℕ) (path : PathValue) → is_busy opens id ≡ true → delete_refusal v user opens dir path ≡ None → LetsBe id v (delete_effect v user now dir path)
 unfolding delete_refusal delete_effect
-delete-be id v opens now dir path busy passes =
-    at-found (LetsBe id v) (found v.rows dir path) _ v _ passes (λ gone is clear.
-    let none = none-holds ((gone == root_id, AccessDenied) ∷ (has_attribute v.rows delete_inhibit gone, ObjectLocked) ∷ (is_busy opens gone, FileBusy) ∷ (has_children v.rows gone, DirNotEmpty) ∷ []) clear in
-    touched-be id v (without_node gone v) now (directory_of v.rows gone) (without-be id v gone (another opens id gone busy none.1.1.0)))
+delete-be id v user opens now dir path busy passes =
+    at-found (LetsBe id v) (found v.rows user dir path) _ v _ passes (λ gone is clear.
+    let none = none-holds ((gone == root_id, AccessDenied) ∷ (lacks_above v.rows user write_right gone, AccessDenied) ∷ (has_attribute v.rows delete_inhibit gone, ObjectLocked) ∷ (is_busy opens gone, FileBusy) ∷ (has_children v.rows gone, DirNotEmpty) ∷ []) clear in
+    touched-be id v (without_node gone v) now (directory_of v.rows gone) (without-be id v gone (another opens id gone busy none.1.1.1.0)))
 
-create-dir-be : (id : ℕ) (v : VolumeState) (now dir : ℕ) (path : PathValue) → LetsBe id v (create_dir_effect v now dir path)
+create-dir-be : (id : ℕ) (v : VolumeState) (user : ℕ) (now dir : ℕ) (path : PathValue) → LetsBe id v (create_dir_effect v user now dir path)
 unfolding create_dir_effect
-create-dir-be id v now dir path = done-be id v (new_place v.rows dir path) (created true now v) (λ place. created-be id v v true now place (λ resource bytes h. h))
+create-dir-be id v user now dir path = done-be id v (new_place v.rows user dir path) (created true user now v) (λ place. created-be id v v true user now place (λ resource bytes h. h))
 
-rename-be : (id : ℕ) (v : VolumeState) (now dir : ℕ) (path new : PathValue) → LetsBe id v (rename_effect v now dir path new)
+rename-be : (id : ℕ) (v : VolumeState) (user : ℕ) (now dir : ℕ) (path new : PathValue) → LetsBe id v (rename_effect v user now dir path new)
 unfolding rename_effect
-rename-be id v now dir path new =
-    done-be id v (found v.rows dir path) _ (λ node. done-be id v (one_down new.steps) _ (λ name.
+rename-be id v user now dir path new =
+    done-be id v (found v.rows user dir path) _ (λ node. done-be id v (one_down new.steps) _ (λ name.
     touched-be id v (renamed node name v) now (directory_of v.rows node) (changed-be id v node (named name) (record { ids = λ row. refl; forks = λ resource row. refl }))))
 
-move-be : (id : ℕ) (v : VolumeState) (now dir : ℕ) (path : PathValue) (to_dir : ℕ) (to_path new : PathValue) → LetsBe id v (move_effect v now dir path to_dir to_path new)
+move-be : (id : ℕ) (v : VolumeState) (user : ℕ) (now dir : ℕ) (path : PathValue) (to_dir : ℕ) (to_path new : PathValue) → LetsBe id v (move_effect v user now dir path to_dir to_path new)
 unfolding move_effect
-move-be id v now dir path to_dir to_path new =
-    done-be id v (found v.rows dir path) _ (λ node. done-be id v (found v.rows to_dir to_path) _ (λ target. done-be id v (one_down_or (name_of v.rows node) new.steps) _ (λ name.
+move-be id v user now dir path to_dir to_path new =
+    done-be id v (found v.rows user dir path) _ (λ node. done-be id v (found v.rows user to_dir to_path) _ (λ target. done-be id v (one_down_or (name_of v.rows node) new.steps) _ (λ name.
     touched-be id v (children_changed now (directory_of v.rows node) (with_moved node target name v)) now target
     (λ resource bytes h. changed-be id (with_moved node target name v) (directory_of v.rows node) (modified_at now) (modified-keeps now) resource bytes
     (changed-be id v node (at_place target name) (record { ids = λ row. refl; forks = λ resource row. refl }) resource bytes h)))))
 
-set-be : (id : ℕ) (v : VolumeState) (now dir bits : ℕ) (path : PathValue) (rest : List ℕ) → LetsBe id v (set_parms_effect v now dir bits path rest)
+set-be : (id : ℕ) (v : VolumeState) (user : ℕ) (now dir bits : ℕ) (path : PathValue) (rest : List ℕ) → LetsBe id v (set_parms_effect v user now dir bits path rest)
 unfolding set_parms_effect with_node_set with_settings
-set-be id v now dir bits path rest =
-    done-be id v (found v.rows dir path) _ (λ node. changed-be id v node (with_settings (settings_in bits rest)) (record { ids = λ row. refl; forks = λ resource row. refl }))
+set-be id v user now dir bits path rest =
+    done-be id v (found v.rows user dir path) _ (λ node. changed-be id v node (with_settings (settings_in bits rest)) (record { ids = λ row. refl; forks = λ resource row. refl }))
 
 set-volume-be : (id : ℕ) (v : VolumeState) (now : ℕ) (rest : List ℕ) → LetsBe id v (set_vol_parms_effect v now rest)
 unfolding set_vol_parms_effect
 set-volume-be id v now rest resource bytes h = h
 
-pub tree-lets-be : (v : VolumeState) (opens : List Opened) (now : ℕ) (call : TreeCall) (id : ℕ) → tree_refusal v opens call ≡ None → is_busy opens id ≡ true → (resource : Bool) (bytes : List ℕ) → Has id resource bytes v → Has id resource bytes (tree_effect v now call)
-tree-lets-be v opens now (CreateDir dir path) id passes busy = create-dir-be id v now dir path
-tree-lets-be v opens now (CreateFile hard dir path) id passes busy = create-file-be id v opens hard now dir path busy passes
-tree-lets-be v opens now (Delete dir path) id passes busy = delete-be id v opens now dir path busy passes
-tree-lets-be v opens now (Rename dir path new) id passes busy = rename-be id v now dir path new
-tree-lets-be v opens now (MoveAndRename dir path to_dir to_path new) id passes busy = move-be id v now dir path to_dir to_path new
-tree-lets-be v opens now (SetFileParms dir bits path rest) id passes busy = set-be id v now dir bits path rest
-tree-lets-be v opens now (SetDirParms dir bits path rest) id passes busy = set-be id v now dir bits path rest
-tree-lets-be v opens now (SetFileDirParms dir bits path rest) id passes busy = set-be id v now dir bits path rest
-tree-lets-be v opens now (SetVolParms bits rest) id passes busy = set-volume-be id v now rest
+pub tree-lets-be : (v : VolumeState) (user : ℕ) (opens : List Opened) (now : ℕ) (call : TreeCall) (id : ℕ) → tree_refusal v user opens call ≡ None → is_busy opens id ≡ true → (resource : Bool) (bytes : List ℕ) → Has id resource bytes v → Has id resource bytes (tree_effect v user now call)
+tree-lets-be v user opens now (CreateDir dir path) id passes busy = create-dir-be id v user now dir path
+tree-lets-be v user opens now (CreateFile hard dir path) id passes busy = create-file-be id v user opens hard now dir path busy passes
+tree-lets-be v user opens now (Delete dir path) id passes busy = delete-be id v user opens now dir path busy passes
+tree-lets-be v user opens now (Rename dir path new) id passes busy = rename-be id v user now dir path new
+tree-lets-be v user opens now (MoveAndRename dir path to_dir to_path new) id passes busy = move-be id v user now dir path to_dir to_path new
+tree-lets-be v user opens now (SetFileParms dir bits path rest) id passes busy = set-be id v user now dir bits path rest
+tree-lets-be v user opens now (SetDirParms dir bits path rest) id passes busy = set-be id v user now dir bits path rest
+tree-lets-be v user opens now (SetFileDirParms dir bits path rest) id passes busy = set-be id v user now dir bits path rest
+tree-lets-be v user opens now (SetVolParms bits rest) id passes busy = set-volume-be id v now rest

@@ -10,7 +10,7 @@ use Rattle.afp_base.specs.Choice.{first_holding}
 use Rattle.afp_base.specs.DenyMode.{Access, Fork, do_conflict, is_clash, is_denied_by, is_one_fork}
 use Rattle.afp_base.specs.Overlap.{do_meet}
 use Rattle.afp_base.specs.declared.code.Code.{Code}
-use Rattle.afp_base.specs.declared.code.Code.TheVariants.{BitmapErr, DenyConflict, ObjectLocked, ObjectTypeErr, ParamErr, TooManyFilesOpen}
+use Rattle.afp_base.specs.declared.code.Code.TheVariants.{AccessDenied, BitmapErr, DenyConflict, ObjectLocked, ObjectTypeErr, ParamErr, TooManyFilesOpen}
 use Rattle.afp_base.specs.declared.ids.NodeId.{NodeId}
 use Rattle.afp_base.specs.declared.ids.VolumeId.{VolumeId}
 use Rattle.afp_bitmap.specs.Bits.{file_mask, is_outside}
@@ -38,7 +38,7 @@ use Rattle.afp_serial.proofs.SoundRow.{IsRefusedTo, IsSoundRow, behind-first, fi
 use Rattle.afp_serial.proofs.VolumeCodes.{is_refusal, open-fork-refuses}
 use Rattle.afp_serial.proofs.VolumeStates.{IsServed, served-at}
 use Rattle.afp_serial.specs.SessionLaws.{SessionsAfter, all_stay, logs_in}
-use Rattle.afp_serial.specs.World.{Refused, plain, refused_before, has_opened, has_session, is_open, volume_at, World, Session, OpenFork, Lock}
+use Rattle.afp_serial.specs.World.{Refused, plain, refused_before, has_opened, has_session, is_open, user_of, volume_at, World, Session, OpenFork, Lock}
 use Rattle.afp_serial.specs.Fork.{OpenAsked, access_of, denied_of, file_asked, fork_in, fork_ref, has_most_forks, is_denied, lowest_free, new_fork, open_fork_row, opened_reply, opens_asked, opens_fork, with_fork, with_open}
 use Rattle.afp_serial.specs.OnVolume.{opened_on, refused_on}
 use Rattle.afp_serial.specs.ReplyKinds.{command_of, reply_kind}
@@ -47,7 +47,8 @@ use Rattle.volume_spec.proofs.Refusals.{none-first, none-holds}
 use Rattle.volume_spec.proofs.SeenRows.{file-found, test-found}
 use Rattle.volume_spec.proofs.Trees.{tree-parts}
 use Rattle.volume_spec.proofs.Walks.{row-there}
-use Rattle.volume_spec.specs.Shared.{behind, done_at, has_attribute, write_inhibit}
+use Rattle.volume_spec.specs.Rights.{read_right, write_right}
+use Rattle.volume_spec.specs.Shared.{behind, done_at, has_attribute, lacks_above, write_inhibit}
 use Rattle.volume_spec.specs.NodeValues.{file_values}
 use Rattle.volume_spec.specs.OpenFork.{file_of, fork_values, is_resource, open_fork_file, open_fork_refusal}
 use Rattle.volume_spec.specs.SoundVolume.{IsSoundVolume, has_file, has_node}
@@ -71,9 +72,9 @@ file-kind v id (Some other) file row is = by other.dir refl is
     by true dir h = absurd (cc)
     by false dir h = let same : other ≡ file = cc in subst (IsFileFound v) same (record { id = id; row = row; kind = dir })
 
-pub found-file : (v : VolumeState) (dir : ℕ) (path : PathValue) (file : File) → open_fork_file v dir path ≡ Some file → IsFileFound v file
+pub found-file : (v : VolumeState) (user : ℕ) (dir : ℕ) (path : PathValue) (file : File) → open_fork_file v user dir path ≡ Some file → IsFileFound v file
 unfolding open_fork_file
-found-file v dir path file is = by (found v.rows dir path) is
+found-file v user dir path file is = by (found v.rows user dir path) is
   where
     by : (r : Result ℕ Code) → done_at r None (λ id. file_of (row_at v.rows id)) ≡ Some file → IsFileFound v file
     by (Ok id) h = file-kind v id (row_at v.rows id) file refl h
@@ -92,33 +93,33 @@ pub record Opens (w : World) (s : Session) (asked : OpenAsked) (dir : ℕ) (path
   pub state : VolumeState
   pub there : volume_at w.volumes asked.volume ≡ Some state
   pub file : File
-  pub is : open_fork_file state dir path ≡ Some file
+  pub is : open_fork_file state (user_of s) dir path ≡ Some file
   pub inside : is_outside file_mask asked.bits ≡ false
   pub agrees : is_denied w (fork_in asked file) asked.access ≡ false
   pub room : has_most_forks w s ≡ false
 
 -- where a volume does not refuse there is a file
-pub record VolumeOpens (v : VolumeState) (bits dir : ℕ) (path : PathValue) : Type 0 where
+pub record VolumeOpens (v : VolumeState) (user bits dir : ℕ) (path : PathValue) : Type 0 where
   pub inside : is_outside file_mask bits ≡ false
   pub file : File
-  pub is : open_fork_file v dir path ≡ Some file
+  pub is : open_fork_file v user dir path ≡ Some file
 
 node-of : (v : VolumeState) (id : ℕ) → has_file v.rows id ≡ true → has_node v.rows id ≡ true
 node-of v id h = any-weaker (λ (row : File). (row.id == id) && not row.dir) (λ (row : File). row.id == id) v.rows (λ row both. (and_parts (row.id == id) (not row.dir) both).0) h
 
-volume-opens : (v : VolumeState) (bits : ℕ) (writes : Bool) (dir : ℕ) (path : PathValue) → IsSoundVolume v → open_fork_refusal v bits writes dir path ≡ None → VolumeOpens v bits dir path
+volume-opens : (v : VolumeState) (user : ℕ) (bits : ℕ) (reads writes : Bool) (dir : ℕ) (path : PathValue) → IsSoundVolume v → open_fork_refusal v user bits reads writes dir path ≡ None → VolumeOpens v user bits dir path
 unfolding open_fork_refusal open_fork_file
-volume-opens v bits writes dir path sound passes =
+volume-opens v user bits reads writes dir path sound passes =
     let first = none-first ((is_outside file_mask bits, BitmapErr) ∷ []) _ passes in
-    by (found v.rows dir path) refl first.0.0 first.1
+    by (found v.rows user dir path) refl first.0.0 first.1
   where
     tests : ℕ → List (Bool × Code)
-    tests id = (not (has_file v.rows id), ObjectTypeErr) ∷ (writes && has_attribute v.rows write_inhibit id, ObjectLocked) ∷ []
+    tests id = (not (has_file v.rows id), ObjectTypeErr) ∷ (reads && lacks_above v.rows user read_right id, AccessDenied) ∷ (writes && lacks_above v.rows user write_right id, AccessDenied) ∷ (writes && has_attribute v.rows write_inhibit id, ObjectLocked) ∷ []
 
     kept : (id : ℕ) (file : File) → row_at v.rows id ≡ Some file → has_file v.rows id ≡ true → file_of (row_at v.rows id) ≡ Some file
     kept id file row is_file = ap file_of row ∙ ap (λ b. cond b None (Some file)) (file-found v.rows id file (tree-parts v sound.tree).apart row is_file)
 
-    by : (r : Result ℕ Code) → found v.rows dir path ≡ r → is_outside file_mask bits ≡ false → behind r (λ id. first_holding (tests id)) ≡ None → VolumeOpens v bits dir path
+    by : (r : Result ℕ Code) → found v.rows user dir path ≡ r → is_outside file_mask bits ≡ false → behind r (λ id. first_holding (tests id)) ≡ None → VolumeOpens v user bits dir path
     by (Err code) at_end inside h = absurd (cc)
     by (Ok id) at_end inside h =
         let none = none-holds (tests id) h in
@@ -129,18 +130,18 @@ volume-opens v bits writes dir path sound passes =
 pub opens-passed : (w : World) (s : Session) (asked : OpenAsked) (dir : ℕ) (path : PathValue) → IsSound w → first_holding ((opens_asked asked dir path).refusals w s) ≡ None → Opens w s asked dir path
 opens-passed w s asked dir path h passes = by (has_opened s asked.volume) (volume_at w.volumes asked.volume) refl refl passes
   where
-    told-of : (v : VolumeState) → has_opened s asked.volume ≡ true → volume_at w.volumes asked.volume ≡ Some v → VolumeOpens v asked.bits dir path → first_holding (denied_of w s asked (open_fork_file v dir path)) ≡ None → Opens w s asked dir path
+    told-of : (v : VolumeState) → has_opened s asked.volume ≡ true → volume_at w.volumes asked.volume ≡ Some v → VolumeOpens v (user_of s) asked.bits dir path → first_holding (denied_of w s asked (open_fork_file v (user_of s) dir path)) ≡ None → Opens w s asked dir path
     told-of v opened there found k =
         let none = none-refused (denied_of w s asked (Some found.file)) (ap (λ q. first_holding (denied_of w s asked q)) (sym found.is) ∙ k) in
         record { opened = opened; state = v; there = there; file = found.file; is = found.is; inside = found.inside; agrees = none.0; room = none.1.0 }
 
     by : (b : Bool) (q : Option VolumeState) → has_opened s asked.volume ≡ b → volume_at w.volumes asked.volume ≡ q
-        → first_holding ((not b, plain ParamErr) ∷ refused_before (refused_on q (λ v. open_fork_refusal v asked.bits asked.access.write dir path)) (denied_of w s asked (file_asked q dir path))) ≡ None → Opens w s asked dir path
+        → first_holding ((not b, plain ParamErr) ∷ refused_before (refused_on q (λ v. open_fork_refusal v (user_of s) asked.bits asked.access.read asked.access.write dir path)) (denied_of w s asked (file_asked q (user_of s) dir path))) ≡ None → Opens w s asked dir path
     by false q opened there k = absurd (cc)
     by true None opened there k = absurd (cc)
     by true (Some v) opened there k =
-        let e = refused_before-none (open_fork_refusal v asked.bits asked.access.write dir path) (denied_of w s asked (open_fork_file v dir path)) k in
-        told-of v opened there (volume-opens v asked.bits asked.access.write dir path (served-at w asked.volume v h there).sound e.0) e.1
+        let e = refused_before-none (open_fork_refusal v (user_of s) asked.bits asked.access.read asked.access.write dir path) (denied_of w s asked (open_fork_file v (user_of s) dir path)) k in
+        told-of v opened there (volume-opens v (user_of s) asked.bits asked.access.read asked.access.write dir path (served-at w asked.volume v h there).sound e.0) e.1
 
 -- the new fork among the open ones
 
@@ -309,33 +310,33 @@ open-refused : (call : Call) (asked : OpenAsked) (dir : ℕ) (path : PathValue) 
 open-refused call asked dir path w s r denies h is = by (volume_at w.volumes asked.volume) refl is
   where
     refuses : VolumeState → Option Code
-    refuses v = open_fork_refusal v asked.bits asked.access.write dir path
+    refuses v = open_fork_refusal v (user_of s) asked.bits asked.access.read asked.access.write dir path
 
     -- a volume that does not refuse has the file
-    told-of : (v : VolumeState) → IsServed v asked.volume → VolumeOpens v asked.bits dir path → first_holding (denied_of w s asked (open_fork_file v dir path)) ≡ Some r → IsRefusedTo call r
+    told-of : (v : VolumeState) → IsServed v asked.volume → VolumeOpens v (user_of s) asked.bits dir path → first_holding (denied_of w s asked (open_fork_file v (user_of s) dir path)) ≡ Some r → IsRefusedTo call r
     told-of v served o k =
         first-told call (denied_of w s asked (Some o.file)) r (ap (λ q. first_holding (denied_of w s asked q)) (sym o.is) ∙ k)
-        (denial-told call w asked v o.file denies served (found-file v dir path o.file o.is) o.inside, (no_more-told call (plain TooManyFilesOpen) refl, tt))
+        (denial-told call w asked v o.file denies served (found-file v (user_of s) dir path o.file o.is) o.inside, (no_more-told call (plain TooManyFilesOpen) refl, tt))
 
-    of-volume : (v : VolumeState) → IsServed v asked.volume → (q : Option Code) → refuses v ≡ q → is_refusal q ≡ true → first_holding (refused_before q (denied_of w s asked (open_fork_file v dir path))) ≡ Some r → IsRefusedTo call r
-    of-volume v served None passes no_more k = told-of v served (volume-opens v asked.bits asked.access.write dir path served.sound passes) k
+    of-volume : (v : VolumeState) → IsServed v asked.volume → (q : Option Code) → refuses v ≡ q → is_refusal q ≡ true → first_holding (refused_before q (denied_of w s asked (open_fork_file v (user_of s) dir path))) ≡ Some r → IsRefusedTo call r
+    of-volume v served None passes no_more k = told-of v served (volume-opens v (user_of s) asked.bits asked.access.read asked.access.write dir path served.sound passes) k
     of-volume v served (Some code) passes no_more k = let same : plain code ≡ r = cc in subst (IsRefusedTo call) same (no_more-told call (plain code) no_more)
 
-    by : (q : Option VolumeState) → volume_at w.volumes asked.volume ≡ q → first_holding ((not (has_opened s asked.volume), plain ParamErr) ∷ refused_before (refused_on q refuses) (denied_of w s asked (file_asked q dir path))) ≡ Some r → IsRefusedTo call r
+    by : (q : Option VolumeState) → volume_at w.volumes asked.volume ≡ q → first_holding ((not (has_opened s asked.volume), plain ParamErr) ∷ refused_before (refused_on q refuses) (denied_of w s asked (file_asked q (user_of s) dir path))) ≡ Some r → IsRefusedTo call r
     by None there k = no_more-refuses call ((not (has_opened s asked.volume), plain ParamErr) ∷ (true, plain ParamErr) ∷ []) r k refl
     by (Some v) there k =
-        behind-first call (not (has_opened s asked.volume), plain ParamErr) (refused_before (refuses v) (denied_of w s asked (open_fork_file v dir path))) r (no_more-told call (plain ParamErr) refl)
-        (of-volume v (served-at w asked.volume v h there) (refuses v) refl (open-fork-refuses v asked.bits asked.access.write dir path)) k
+        behind-first call (not (has_opened s asked.volume), plain ParamErr) (refused_before (refuses v) (denied_of w s asked (open_fork_file v (user_of s) dir path))) r (no_more-told call (plain ParamErr) refl)
+        (of-volume v (served-at w asked.volume v h there) (refuses v) refl (open-fork-refuses v (user_of s) asked.bits asked.access.read asked.access.write dir path)) k
 
 -- the file that is asked for
-asked-is : (w : World) (s : Session) (asked : OpenAsked) (dir : ℕ) (path : PathValue) → (o : Opens w s asked dir path) → file_asked (volume_at w.volumes asked.volume) dir path ≡ Some o.file
-asked-is w s asked dir path o = ap (λ q. file_asked q dir path) o.there ∙ o.is
+asked-is : (w : World) (s : Session) (asked : OpenAsked) (dir : ℕ) (path : PathValue) → (o : Opens w s asked dir path) → file_asked (volume_at w.volumes asked.volume) (user_of s) dir path ≡ Some o.file
+asked-is w s asked dir path o = ap (λ q. file_asked q (user_of s) dir path) o.there ∙ o.is
 
 lawful-new : (w : World) (s : Session) (test : Session → Bool) (asked : OpenAsked) (dir : ℕ) (path : PathValue) → find test w.sessions ≡ Some s → IsSound w → (o : Opens w s asked dir path) → is_lawful_open w (new_fork w s asked o.file) ≡ true
 lawful-new w s test asked dir path found h o =
     and_from (has_volume_open w.sessions s.number asked.volume) (is_file_of (volume_at w.volumes asked.volume) o.file.id)
     (find-any test (λ x. (x.number == s.number) && has_opened x asked.volume) w.sessions s found (and_from (s.number == s.number) (has_opened s asked.volume) (eq-eqb s.number s.number refl) o.opened))
-    (ap (λ q. is_file_of q o.file.id) o.there ∙ file-is o.state o.file (served-at w asked.volume o.state h o.there).sound (found-file o.state dir path o.file o.is))
+    (ap (λ q. is_file_of q o.file.id) o.there ∙ file-is o.state o.file (served-at w asked.volume o.state h o.there).sound (found-file o.state (user_of s) dir path o.file o.is))
 
 apart-after : (w : World) (s : Session) (asked : OpenAsked) (q : Option File) → ApartSessions w → ApartSessions (opens_fork w s asked q).world
 apart-after w s asked None a = a
@@ -364,22 +365,22 @@ opens-sound call asked dir path asks denies = record {
       let o = opens-passed w s asked dir path h passes in
       subst (λ q. IsSound (opens_fork w s asked q).world) (sym (asked-is w s asked dir path o)) (new-sound w s asked o.file (lawful-new w s test asked dir path found h o) o.agrees o.room h);
   fits = λ w s lawful passes h. (told w s passes h).short;
-  shown = λ w s lawful passes h known. told-shown call (opens_fork w s asked (file_asked (volume_at w.volumes asked.volume) dir path)).reply (told w s passes h);
-  apart = λ w s test found a. apart-after w s asked (file_asked (volume_at w.volumes asked.volume) dir path) a;
-  next = λ w s. next-after w s asked (file_asked (volume_at w.volumes asked.volume) dir path);
+  shown = λ w s lawful passes h known. told-shown call (opens_fork w s asked (file_asked (volume_at w.volumes asked.volume) (user_of s) dir path)).reply (told w s passes h);
+  apart = λ w s test found a. apart-after w s asked (file_asked (volume_at w.volumes asked.volume) (user_of s) dir path) a;
+  next = λ w s. next-after w s asked (file_asked (volume_at w.volumes asked.volume) (user_of s) dir path);
   keeper = λ w s index passes commits. no-keeper w index commits;
-  old = λ w s n h. old-after w s asked (file_asked (volume_at w.volumes asked.volume) dir path) n h;
-  cached = λ w s test found p h. cached-after w s asked (file_asked (volume_at w.volumes asked.volume) dir path) p h;
-  leaves = λ stays w s. sessions-after (logs_in call) w s asked (file_asked (volume_at w.volumes asked.volume) dir path);
+  old = λ w s n h. old-after w s asked (file_asked (volume_at w.volumes asked.volume) (user_of s) dir path) n h;
+  cached = λ w s test found p h. cached-after w s asked (file_asked (volume_at w.volumes asked.volume) (user_of s) dir path) p h;
+  leaves = λ stays w s. sessions-after (logs_in call) w s asked (file_asked (volume_at w.volumes asked.volume) (user_of s) dir path);
 }
   where
-    told : (w : World) (s : Session) → first_holding ((opens_asked asked dir path).refusals w s) ≡ None → IsSound w → IsToldTo call (opens_fork w s asked (file_asked (volume_at w.volumes asked.volume) dir path)).reply
+    told : (w : World) (s : Session) → first_holding ((opens_asked asked dir path).refusals w s) ≡ None → IsSound w → IsToldTo call (opens_fork w s asked (file_asked (volume_at w.volumes asked.volume) (user_of s) dir path)).reply
     told w s passes h =
         let o = opens-passed w s asked dir path h passes in
         let few = opens-few w h in
         let low = lowest-within w.opens in
         subst (λ q. IsToldTo call (opens_fork w s asked q).reply) (sym (asked-is w s asked dir path o))
-        (opened-told call (with_fork w (new_fork w s asked o.file)) asked (lowest_free w.opens) o.state o.file asks (served-at w asked.volume o.state h o.there) (found-file o.state dir path o.file o.is) o.inside (omega (arith, few, low.1)))
+        (opened-told call (with_fork w (new_fork w s asked o.file)) asked (lowest_free w.opens) o.state o.file asks (served-at w asked.volume o.state h o.there) (found-file o.state (user_of s) dir path o.file o.is) o.inside (omega (arith, few, low.1)))
 
 open-fork-asks : (flag : ℕ) (volume : VolumeId) (dir : NodeId) (bits mode : ℕ) (path : PathValue) (r : ℕ) (values : FileValues) → Asks (calls.OpenFork flag volume dir bits mode path) (Opened bits (fork_ref r) (FileParams values))
 unfolding shape_of shape_in rows

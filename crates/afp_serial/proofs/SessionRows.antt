@@ -1,11 +1,10 @@
 -- What the calls owe that tell of the server, of users and of messages, and change nothing.
 use Rattle.std.proofs.Common.{◌≡◌, sym, refl, subst, ℕ, suc, ◌*◌, ◌%◌, ◌<◌, ◌≤◌, ◌^◌, arith, Bool, true, false, not, ◌&&◌, ◌||◌, cond, List, [], ◌∷◌, ◌++◌, length, map, Option, Some, None, inl, inr}
-use Rattle.std.specs.Prelude.{◌==◌, is_none, nat_le, nat_lt, option_map, pos, bytes_eq, FitsSigned}
+use Rattle.std.specs.Prelude.{◌==◌, is_none, nat_le, option_map, pos, bytes_eq, FitsSigned}
 use Rattle.std.specs.Int.{w32}
-use Rattle.std.specs.List.{AllByRecursion, concat, list_all, list_any}
-use Rattle.std.proofs.lemmas.Bool.{and_parts, cond_both, eqb-true, le-leb, leb-true, lt-ltb, ltb-true, or_cases, or_parts, not-false}
+use Rattle.std.specs.List.{AllByRecursion, concat, list_all}
+use Rattle.std.proofs.lemmas.Bool.{and_parts, cond_both, eqb-true, le-leb, leb-true, ltb-true, or_cases, or_parts, not-false}
 use Rattle.std.proofs.lemmas.List.{length-append, length-map, length-replicate}
-use Rattle.afp_base.proofs.Facts.{none_from_is_none}
 use Rattle.afp_base.proofs.ListFacts.{all-each, find-all}
 use Rattle.afp_base.proofs.Numbers.{length-big_bytes}
 use Rattle.afp_base.specs.Choice.{first_holding}
@@ -24,9 +23,9 @@ use Rattle.afp_replies.specs.declared.reply.Reply.{Reply}
 use Rattle.afp_replies.specs.declared.reply.Reply.TheVariants.{MappedId, MappedName, Message, ServerParams, Status}
 use Rattle.afp_calls_grammar.specs.declared.call.Call.{Call}
 use Rattle.afp_calls_grammar.specs.declared.call.Call.TheVariants.{GetSrvrInfo, GetSrvrMsg, GetSrvrParms, GetUserInfo, MapID, MapName}
-use Rattle.afp_serial.proofs.Faultless.{faultless}
 use Rattle.afp_serial.proofs.ListShown.{within}
 use Rattle.afp_serial.proofs.OnVolumeRows.{Asks}
+use Rattle.afp_serial.proofs.SessionUsers.{house-of, is_small, known-small, users-small}
 use Rattle.afp_serial.proofs.SoundParts.{fields-parts}
 use Rattle.afp_serial.proofs.SoundRow.{IsSoundRow, is_refused, no-keeper, no_more-refuses, tells_user}
 use Rattle.afp_serial.proofs.StatusParts.{head_length}
@@ -35,7 +34,7 @@ use Rattle.afp_serial.specs.GetSrvrInfo.{get_srvr_info_row}
 use Rattle.afp_serial.specs.GetSrvrMsg.{closing_message, get_srvr_msg_row, login_message, message_of, message_since, server_message}
 use Rattle.afp_serial.specs.GetSrvrParms.{get_srvr_parms_row, volume_entry}
 use Rattle.afp_serial.specs.GetUserInfo.{get_user_info_row, id_of, user_info, where_asked}
-use Rattle.afp_serial.specs.HouseFault.{house_fault, is_name, is_printable, is_text}
+use Rattle.afp_serial.specs.HouseFault.{is_name, is_printable, is_text}
 use Rattle.afp_serial.specs.Household.{Household}
 use Rattle.afp_serial.specs.Limits.{longest_message, longest_user, longest_volume}
 use Rattle.afp_serial.specs.MapID.{is_utf8_function, map_id_row, name_of_id, name_reply}
@@ -75,30 +74,14 @@ clear : {A : Type 0} (b : Bool) (x : A) (rest : Option A) → cond b (Some x) re
 clear true x rest h = absurd (cc)
 clear false x rest h = (refl, h)
 
--- the house of a sound world
-
-house-of : (w : World) → IsSound w → IsFaultless w.house
-house-of w h = faultless w.house (none_from_is_none (house_fault w.house) h.house)
-
 text-short : (longest : ℕ) (text : List ℕ) → is_text longest text ≡ true → length text ≤ longest
 text-short longest text h = leb-true (length text) longest (and_parts (nat_le (length text) longest) (list_all is_printable text) h).0
 
 name-short : (longest : ℕ) (name : List ℕ) → is_name longest name ≡ true → length name ≤ longest
 name-short longest name h = text-short longest name (and_parts (nat_le 1 (length name)) (is_text longest name) h).1
 
-abbrev is_small : User → Bool
-is_small user = nat_lt user.id 4294967296
-
 users-named : (house : Household) → IsFaultless house → list_all (λ user. is_name longest_user user.name) house.users ≡ true
 users-named house has = all-each (λ user. is_name longest_user user.name) house.users has.user_names
-
-users-small : (house : Household) → IsFaultless house → list_all is_small house.users ≡ true
-users-small house has =
-    all-each is_small house.users
-    (λ k d inside.
-    let is = has.user_ids k d inside in
-    let few = has.few_users in
-    lt-ltb _ 4294967296 (omega (arith, is, few, inside)))
 
 -- FPGetSrvrInfo
 
@@ -216,22 +199,6 @@ user-info-short bits id =
     let last = length-append (optional_bytes g) [] in
     let whole : length (canonical_reply (user_info bits id)) ≡ suc (suc (length (optional_bytes u ++ (optional_bytes g ++ [])))) = refl in
     omega (arith, us, gs, both, last, whole)
-
-known-small : (users : List User) (o : Option ℕ) → list_all is_small users ≡ true → is_user_of users o ≡ true → id_of o < 4294967296
-known-small users None small known = omega arith
-known-small users (Some id) small known = elim (or_cases (id == guest_id) _ known) [
-  | inl guest ↦ let is : id ≡ 500 = eqb-true id 500 guest in omega (arith, is)
-  | inr one ↦ among users small one
-]
-  where
-    among : (xs : List User) → list_all is_small xs ≡ true → list_any (λ user. user.id == id) xs ≡ true → id < 4294967296
-    among [] small there = absurd (cc)
-    among (x ∷ xs) small there =
-        let e = and_parts (is_small x) (list_all is_small xs) small in
-        elim (or_cases (x.id == id) (list_any (λ user. user.id == id) xs) there) [
-          | inl here ↦ let is : x.id ≡ id = eqb-true x.id id here in let low = ltb-true x.id 4294967296 e.0 in omega (arith, is, low)
-          | inr later ↦ among xs e.1 later
-        ]
 
 user-asks : (flag id bits own : ℕ) → Asks (GetUserInfo flag id bits) (user_info bits own)
 unfolding shape_of shape_in rows

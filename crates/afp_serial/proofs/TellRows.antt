@@ -26,6 +26,7 @@ use Rattle.afp_serial.specs.GetVolParms.{get_vol_parms_row}
 use Rattle.afp_serial.specs.OnVolume.{on_volume, opened_on}
 use Rattle.afp_serial.specs.OpenDir.{close_dir_row, open_dir_row}
 use Rattle.volume_spec.specs.Enumerate.{asked_narrow, asked_wide}
+use Rattle.afp_serial.specs.World.{user_of}
 
 -- rows that are refused where the volume is not open, and do and tell nothing else
 
@@ -73,8 +74,8 @@ get-vol-parms-asks volume bits values = (refl, refl)
 
 pub get-vol-parms-sound : (volume : VolumeId) (bits : ℕ) → IsSoundRow (GetVolParms volume bits) (get_vol_parms_row volume.0 bits)
 get-vol-parms-sound volume bits =
-    tells-sound (GetVolParms volume bits) volume.0 _ _ (λ w v. volume-refuses bits)
-    (λ w v lawful served passes. volume-told-to (GetVolParms volume bits) v volume.0 bits (get-vol-parms-asks volume bits) served passes)
+    tells-sound (GetVolParms volume bits) volume.0 _ _ (λ w s v. volume-refuses bits)
+    (λ w s v lawful served passes. volume-told-to (GetVolParms volume bits) v volume.0 bits (get-vol-parms-asks volume bits) served passes)
 
 -- of a node
 
@@ -84,8 +85,8 @@ open-dir-asks volume dir path n = refl
 
 pub open-dir-sound : (volume : VolumeId) (dir : NodeId) (path : PathValue) → IsSoundRow (OpenDir volume dir path) (open_dir_row volume.0 dir.0 path)
 open-dir-sound volume dir path =
-    tells-sound (OpenDir volume dir path) volume.0 _ _ (λ w v. open-dir-refuses v dir.0 path)
-    (λ w v lawful served passes. dir-told-to (OpenDir volume dir path) v volume.0 dir.0 path (open-dir-asks volume dir path) served passes)
+    tells-sound (OpenDir volume dir path) volume.0 _ _ (λ w s v. open-dir-refuses v (user_of s) dir.0 path)
+    (λ w s v lawful served passes. dir-told-to (OpenDir volume dir path) v (user_of s) volume.0 dir.0 path (open-dir-asks volume dir path) served passes)
 
 get-file-dir-parms-asks : (volume : VolumeId) (dir : NodeId) (file_bits dir_bits : ℕ) (path : PathValue) (values : Values) → Asks (GetFileDirParms volume dir file_bits dir_bits path) (FileDirParams file_bits dir_bits values)
 unfolding shape_of shape_in rows
@@ -93,8 +94,8 @@ get-file-dir-parms-asks volume dir file_bits dir_bits path values = (refl, refl,
 
 pub get-file-dir-parms-sound : (volume : VolumeId) (dir : NodeId) (file_bits dir_bits : ℕ) (path : PathValue) → IsSoundRow (GetFileDirParms volume dir file_bits dir_bits path) (get_file_dir_parms_row volume.0 dir.0 file_bits dir_bits path)
 get-file-dir-parms-sound volume dir file_bits dir_bits path =
-    tells-sound (GetFileDirParms volume dir file_bits dir_bits path) volume.0 _ _ (λ w v. node-refuses v file_bits dir_bits dir.0 path)
-    (λ w v lawful served passes. node-values-told-to (GetFileDirParms volume dir file_bits dir_bits path) v (opened_on w volume.0) volume.0 file_bits dir_bits dir.0 path
+    tells-sound (GetFileDirParms volume dir file_bits dir_bits path) volume.0 _ _ (λ w s v. node-refuses v (user_of s) file_bits dir_bits dir.0 path)
+    (λ w s v lawful served passes. node-values-told-to (GetFileDirParms volume dir file_bits dir_bits path) v (user_of s) (opened_on w volume.0) volume.0 file_bits dir_bits dir.0 path
     (get-file-dir-parms-asks volume dir file_bits dir_bits path) served passes)
 
 -- of the children of a directory
@@ -105,8 +106,8 @@ enumerate-asks volume dir file_bits dir_bits count start size path entries = (re
 
 pub enumerate-sound : (volume : VolumeId) (dir : NodeId) (file_bits dir_bits count start size : ℕ) (path : PathValue) → IsSoundRow (Enumerate volume dir file_bits dir_bits count start size path) (enumerate_row volume.0 dir.0 file_bits dir_bits count start size path)
 enumerate-sound volume dir file_bits dir_bits count start size path =
-    tells-sound (Enumerate volume dir file_bits dir_bits count start size path) volume.0 _ _ (λ w v. list-refuses v (opened_on w volume.0) (asked_narrow file_bits dir_bits count start size) dir.0 path)
-    (λ w v lawful served passes. list-told-to (Enumerate volume dir file_bits dir_bits count start size path) v (opened_on w volume.0) (asked_narrow file_bits dir_bits count start size) volume.0 dir.0 path
+    tells-sound (Enumerate volume dir file_bits dir_bits count start size path) volume.0 _ _ (λ w s v. list-refuses v (opened_on w volume.0) (asked_narrow (user_of s) file_bits dir_bits count start size) dir.0 path)
+    (λ w s v lawful served passes. list-told-to (Enumerate volume dir file_bits dir_bits count start size path) v (opened_on w volume.0) (asked_narrow (user_of s) file_bits dir_bits count start size) volume.0 dir.0 path
     (enumerate-asks volume dir file_bits dir_bits count start size path)
     (ltb-true count 65536 (field-lawful (Enumerate volume dir file_bits dir_bits count start size path) 6 (u16 count) lawful refl)) served passes)
 
@@ -116,8 +117,8 @@ enumerate-ext-asks volume dir file_bits dir_bits count start size path entries =
 
 pub enumerate-ext-sound : (volume : VolumeId) (dir : NodeId) (file_bits dir_bits count start size : ℕ) (path : PathValue) → IsSoundRow (EnumerateExt volume dir file_bits dir_bits count start size path) (enumerate_ext_row volume.0 dir.0 file_bits dir_bits count start size path)
 enumerate-ext-sound volume dir file_bits dir_bits count start size path =
-    tells-sound (EnumerateExt volume dir file_bits dir_bits count start size path) volume.0 _ _ (λ w v. list-refuses v (opened_on w volume.0) (asked_wide file_bits dir_bits count start size) dir.0 path)
-    (λ w v lawful served passes. list-told-to (EnumerateExt volume dir file_bits dir_bits count start size path) v (opened_on w volume.0) (asked_wide file_bits dir_bits count start size) volume.0 dir.0 path
+    tells-sound (EnumerateExt volume dir file_bits dir_bits count start size path) volume.0 _ _ (λ w s v. list-refuses v (opened_on w volume.0) (asked_wide (user_of s) file_bits dir_bits count start size) dir.0 path)
+    (λ w s v lawful served passes. list-told-to (EnumerateExt volume dir file_bits dir_bits count start size path) v (opened_on w volume.0) (asked_wide (user_of s) file_bits dir_bits count start size) volume.0 dir.0 path
     (enumerate-ext-asks volume dir file_bits dir_bits count start size path)
     (ltb-true count 65536 (field-lawful (EnumerateExt volume dir file_bits dir_bits count start size path) 6 (u16 count) lawful refl)) served passes)
 
@@ -127,7 +128,7 @@ enumerate-ext2-asks volume dir file_bits dir_bits count start size path entries 
 
 pub enumerate-ext2-sound : (volume : VolumeId) (dir : NodeId) (file_bits dir_bits count start size : ℕ) (path : PathValue) → IsSoundRow (EnumerateExt2 volume dir file_bits dir_bits count start size path) (enumerate_ext2_row volume.0 dir.0 file_bits dir_bits count start size path)
 enumerate-ext2-sound volume dir file_bits dir_bits count start size path =
-    tells-sound (EnumerateExt2 volume dir file_bits dir_bits count start size path) volume.0 _ _ (λ w v. list-refuses v (opened_on w volume.0) (asked_wide file_bits dir_bits count start size) dir.0 path)
-    (λ w v lawful served passes. list-told-to (EnumerateExt2 volume dir file_bits dir_bits count start size path) v (opened_on w volume.0) (asked_wide file_bits dir_bits count start size) volume.0 dir.0 path
+    tells-sound (EnumerateExt2 volume dir file_bits dir_bits count start size path) volume.0 _ _ (λ w s v. list-refuses v (opened_on w volume.0) (asked_wide (user_of s) file_bits dir_bits count start size) dir.0 path)
+    (λ w s v lawful served passes. list-told-to (EnumerateExt2 volume dir file_bits dir_bits count start size path) v (opened_on w volume.0) (asked_wide (user_of s) file_bits dir_bits count start size) volume.0 dir.0 path
     (enumerate-ext2-asks volume dir file_bits dir_bits count start size path)
     (ltb-true count 65536 (field-lawful (EnumerateExt2 volume dir file_bits dir_bits count start size path) 6 (u16 count) lawful refl)) served passes)

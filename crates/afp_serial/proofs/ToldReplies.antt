@@ -6,7 +6,7 @@ use Rattle.std.proofs.lemmas.List.{length-append}
 use Rattle.afp_base.specs.Limits.{payload_limit}
 use Rattle.afp_base.specs.Choice.{first_holding}
 use Rattle.afp_base.specs.declared.code.Code.{Code}
-use Rattle.afp_base.specs.declared.code.Code.TheVariants.{BitmapErr, DiskFull, ObjectExists}
+use Rattle.afp_base.specs.declared.code.Code.TheVariants.{AccessDenied, BitmapErr, DiskFull, ObjectExists}
 use Rattle.afp_base.specs.declared.ids.NodeId.{NodeId}
 use Rattle.afp_bitmap.specs.Params.{params}
 use Rattle.afp_bitmap.specs.Bits.{dir_mask, file_mask, is_outside}
@@ -45,6 +45,7 @@ use Rattle.volume_spec.specs.OpenDir.{open_dir_id, open_dir_refusal}
 use Rattle.volume_spec.specs.SoundVolume.{last_next_id, most_nodes}
 use Rattle.volume_spec.specs.VolumeState.{VolumeState}
 use Rattle.volume_spec.specs.Walk.{Place, child_by_key, found, new_place}
+use Rattle.volume_spec.specs.Rights.{lacks, write_right}
 
 -- nothing
 
@@ -61,32 +62,32 @@ node-told-to call id asks small = record {
 
 -- a directory that was found
 
-pub dir-told-to : (call : Call) (v : VolumeState) (volume dir : ℕ) (path : PathValue) → ((n : NodeId) → Asks call (Node n)) → IsServed v volume → open_dir_refusal v dir path ≡ None → IsToldTo call (open_dir_reply (open_dir_id v dir path))
-dir-told-to call v volume dir path asks served passes =
-    let told = dir-told-id v dir path passes in
+pub dir-told-to : (call : Call) (v : VolumeState) (user volume dir : ℕ) (path : PathValue) → ((n : NodeId) → Asks call (Node n)) → IsServed v volume → open_dir_refusal v user dir path ≡ None → IsToldTo call (open_dir_reply (open_dir_id v user dir path))
+dir-told-to call v user volume dir path asks served passes =
+    let told = dir-told-id v user dir path passes in
     subst (λ o. IsToldTo call (open_dir_reply o)) (sym told.1)
     (node-told-to call told.0 asks (ltb-true told.0 4294967296 (directory-long v.rows told.0 told.2 (typed-parts v served.typed).rows)))
 
 -- a directory that is made
 
-next-small : (v : VolumeState) (dir : ℕ) (path : PathValue) → create_dir_refusal v dir path ≡ None → v.next_id < 4294967296
+next-small : (v : VolumeState) (user dir : ℕ) (path : PathValue) → create_dir_refusal v user dir path ≡ None → v.next_id < 4294967296
 unfolding create_dir_refusal has_no_room has_no_ids
-next-small v dir path passes = by (new_place v.rows dir path) passes
+next-small v user dir path passes = by (new_place v.rows user dir path) passes
   where
     rows : Place → List (Bool × Code)
-    rows place = (is_some (child_by_key v.rows place.dir (name_key place.name)), ObjectExists) ∷ (nat_le most_nodes (length v.rows) || nat_le last_next_id v.next_id, DiskFull) ∷ []
+    rows place = (lacks v.rows user write_right place.dir, AccessDenied) ∷ (is_some (child_by_key v.rows place.dir (name_key place.name)), ObjectExists) ∷ (nat_le most_nodes (length v.rows) || nat_le last_next_id v.next_id, DiskFull) ∷ []
 
     by : (r : Result Place Code) → behind r (λ place. first_holding (rows place)) ≡ None → v.next_id < 4294967296
     by (Ok place) h =
         let none = none-holds (rows place) h in
-        let room = or_parts (nat_le most_nodes (length v.rows)) (nat_le last_next_id v.next_id) none.1.0 in
+        let room = or_parts (nat_le most_nodes (length v.rows)) (nat_le last_next_id v.next_id) none.1.1.0 in
         let left = leb-false last_next_id v.next_id room.1 in
         omega (arith, left)
     by (Err code) h = absurd (cc)
 
-pub made-told-to : (call : Call) (v : VolumeState) (dir : ℕ) (path : PathValue) → ((n : NodeId) → Asks call (Node n)) → create_dir_refusal v dir path ≡ None → IsToldTo call (Node (node_id (create_dir_id v)))
+pub made-told-to : (call : Call) (v : VolumeState) (user dir : ℕ) (path : PathValue) → ((n : NodeId) → Asks call (Node n)) → create_dir_refusal v user dir path ≡ None → IsToldTo call (Node (node_id (create_dir_id v)))
 unfolding create_dir_id
-made-told-to call v dir path asks passes = node-told-to call v.next_id asks (next-small v dir path passes)
+made-told-to call v user dir path asks passes = node-told-to call v.next_id asks (next-small v user dir path passes)
 
 -- a volume
 
@@ -112,14 +113,14 @@ node-size file_bits dir_bits values h =
     let whole : length (canonical_reply (FileDirParams file_bits dir_bits values)) ≡ suc (suc (suc (suc (suc (suc (length (block ++ []))))))) = refl in
     omega (arith, size, end, whole)
 
-pub node-values-told-to : (call : Call) (v : VolumeState) (opens : List Opened) (volume file_bits dir_bits dir : ℕ) (path : PathValue) → ((values : Values) → Asks call (FileDirParams file_bits dir_bits values)) → IsServed v volume → get_file_dir_parms_refusal v file_bits dir_bits dir path ≡ None → IsToldTo call (get_file_dir_parms_reply file_bits dir_bits (get_file_dir_parms_values v opens file_bits dir_bits dir path))
-node-values-told-to call v opens volume file_bits dir_bits dir path asks served passes =
-    by (get_file_dir_parms_values v opens file_bits dir_bits dir path) refl (found-told v opens file_bits dir_bits dir path passes served.sound)
+pub node-values-told-to : (call : Call) (v : VolumeState) (user : ℕ) (opens : List Opened) (volume file_bits dir_bits dir : ℕ) (path : PathValue) → ((values : Values) → Asks call (FileDirParams file_bits dir_bits values)) → IsServed v volume → get_file_dir_parms_refusal v user file_bits dir_bits dir path ≡ None → IsToldTo call (get_file_dir_parms_reply file_bits dir_bits (get_file_dir_parms_values v user opens file_bits dir_bits dir path))
+node-values-told-to call v user opens volume file_bits dir_bits dir path asks served passes =
+    by (get_file_dir_parms_values v user opens file_bits dir_bits dir path) refl (found-told v user opens file_bits dir_bits dir path passes served.sound)
   where
-    by : (o : Option Values) → get_file_dir_parms_values v opens file_bits dir_bits dir path ≡ o → is_some o ≡ true → IsToldTo call (get_file_dir_parms_reply file_bits dir_bits o)
+    by : (o : Option Values) → get_file_dir_parms_values v user opens file_bits dir_bits dir path ≡ o → is_some o ≡ true → IsToldTo call (get_file_dir_parms_reply file_bits dir_bits o)
     by None told some = absurd (cc)
     by (Some values) told some =
-        let shown : FitsReply (FileDirParams file_bits dir_bits values) = node-is-shown v opens file_bits dir_bits dir path values passes told served.sound served.typed in
+        let shown : FitsReply (FileDirParams file_bits dir_bits values) = node-is-shown v user opens file_bits dir_bits dir path values passes told served.sound served.typed in
         record {
           short = le-leb (length (canonical_reply (FileDirParams file_bits dir_bits values))) payload_limit (node-size file_bits dir_bits values shown.2);
           fits = record { fits = shown; told = asks values };
@@ -139,17 +140,17 @@ list-told call v opens asked id asks fits short = record {
 behind-found : {A : Type 0} (r : Result A Code) (refused : A → Option Code) (code : Code) → r ≡ Err code → behind r refused ≡ None → ⊥
 behind-found r refused code is h = let e : Some code ≡ None = sym (ap (λ x. behind x refused) is) ∙ h in cc
 
-list-found : (v : VolumeState) (opens : List Opened) (asked : ListAsked) (dir : ℕ) (path : PathValue) (code : Code) → found v.rows dir path ≡ Err code → enumerate_refusal v opens asked dir path ≡ None → ⊥
+list-found : (v : VolumeState) (opens : List Opened) (asked : ListAsked) (dir : ℕ) (path : PathValue) (code : Code) → found v.rows asked.user dir path ≡ Err code → enumerate_refusal v opens asked dir path ≡ None → ⊥
 unfolding enumerate_refusal
 list-found v opens asked dir path code is passes =
-    behind-found (found v.rows dir path) _ code is
+    behind-found (found v.rows asked.user dir path) _ code is
     (none-first ((is_outside file_mask asked.file_bits, BitmapErr) ∷ (is_outside dir_mask asked.dir_bits, BitmapErr) ∷ ((asked.file_bits == 0) && (asked.dir_bits == 0), BitmapErr) ∷ []) _ passes).1
 
 pub list-told-to : (call : Call) (v : VolumeState) (opens : List Opened) (asked : ListAsked) (volume dir : ℕ) (path : PathValue) → ((rows : List ListEntry) → Asks call (replies.List asked.wide asked.file_bits asked.dir_bits rows)) → asked.count < 65536 → IsServed v volume → enumerate_refusal v opens asked dir path ≡ None → IsToldTo call (enumerate_reply v opens asked dir path)
 unfolding enumerate_reply
-list-told-to call v opens asked volume dir path asks few served passes = by (found v.rows dir path) refl
+list-told-to call v opens asked volume dir path asks few served passes = by (found v.rows asked.user dir path) refl
   where
-    by : (r : Result ℕ Code) → found v.rows dir path ≡ r → IsToldTo call (done_at r Empty (λ id. list_reply v.rows opens asked (entries v.rows opens asked id)))
+    by : (r : Result ℕ Code) → found v.rows asked.user dir path ≡ r → IsToldTo call (done_at r Empty (λ id. list_reply v.rows opens asked (entries v.rows opens asked id)))
     by (Ok id) is =
         let shown = list-is-shown v opens asked dir id path few passes is served.sound served.typed in
         list-told call v opens asked id asks shown.0 (let k = shown.1 in omega (arith, k))

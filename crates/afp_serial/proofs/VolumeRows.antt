@@ -8,6 +8,7 @@ use Rattle.afp_base.specs.declared.code.Code.{Code}
 use Rattle.afp_replies.specs.declared.reply.Reply.{Reply}
 use Rattle.afp_calls_grammar.specs.declared.call.Call.{Call}
 use Rattle.afp_serial.proofs.OnVolumeRows.{IsToldTo, done-keeps, on-passes, on-refused, told-shown}
+use Rattle.afp_serial.proofs.SessionUsers.{user-long}
 use Rattle.afp_serial.proofs.SoundParts.{ApartSessions}
 use Rattle.afp_serial.proofs.SoundRow.{IsSoundRow, no_more-refuses}
 use Rattle.afp_serial.proofs.VolumeCodes.{is_refusal}
@@ -17,7 +18,7 @@ use Rattle.afp_serial.specs.OnVolume.{done_on, on_volume, opened_on, with_volume
 use Rattle.afp_serial.specs.SessionLaws.{SessionsAfter, all_stay, logs_in}
 use Rattle.afp_serial.specs.Sound.{IsSound}
 use Rattle.afp_serial.specs.VolumeRows.{changes_volume, edits_on, keeper_of_edits, with_edits}
-use Rattle.afp_serial.specs.World.{Effect, has_session, volume_at, World, Session}
+use Rattle.afp_serial.specs.World.{Effect, has_session, user_of, volume_at, World, Session}
 use Rattle.volume_spec.proofs.CallsBring.{calls-bring}
 use Rattle.volume_spec.proofs.CallsMay.{call-may}
 use Rattle.volume_spec.proofs.EditsSound.{call-sound}
@@ -26,6 +27,7 @@ use Rattle.volume_spec.proofs.OpenFiles.{calls-let, edits-of-call-let-be, edits-
 use Rattle.volume_spec.specs.Edit.{Edit, after_call}
 use Rattle.volume_spec.specs.EditLaws.{LetFilesBe, MayEditAll}
 use Rattle.volume_spec.specs.EditRanges.{is_typed_edit, is_typed_volume_call}
+use Rattle.volume_spec.specs.TypedVolume.{is_long}
 use Rattle.volume_spec.specs.VolumeCalls.{VolumeCall, call_edits, is_formed_call, volume_refusal}
 use Rattle.volume_spec.specs.VolumeState.{VolumeState}
 
@@ -65,56 +67,56 @@ edits-sound w volume v (e ∷ es) there may lets typed h =
       typed = edits-of-call-typed v w.latest (e ∷ es) (moment-date w h) may typed served.typed;
     })
 
--- so do those of a call that is not refused
-pub change-sound : (w : World) (volume : ℕ) (v : VolumeState) (change : VolumeCall) → is_formed_call change ≡ true → is_typed_volume_call change ≡ true → volume_at w.volumes volume ≡ Some v → volume_refusal v (opened_on w volume) change ≡ None → IsSound w
-    → IsSound (with_edits w volume v (call_edits v w.latest change))
-change-sound w volume v change formed typed there passes h =
+-- so do those of a call of a user that is not refused
+pub change-sound : (w : World) (user volume : ℕ) (v : VolumeState) (change : VolumeCall) → is_long user ≡ true → is_formed_call change ≡ true → is_typed_volume_call change ≡ true → volume_at w.volumes volume ≡ Some v
+    → volume_refusal v user (opened_on w volume) change ≡ None → IsSound w → IsSound (with_edits w volume v (call_edits v user w.latest change))
+change-sound w user volume v change long formed typed there passes h =
     let served : IsServed v volume = served-at w volume v h there in
-    edits-sound w volume v (call_edits v w.latest change) there
-    (call-may v (opened_on w volume) w.latest change formed passes served.sound)
-    (calls-let v (opened_on w volume) w.latest change passes served.sound)
-    (calls-bring v (opened_on w volume) w.latest change (moment-date w h) typed formed passes served.sound served.typed)
+    edits-sound w volume v (call_edits v user w.latest change) there
+    (call-may v user (opened_on w volume) w.latest change formed passes served.sound)
+    (calls-let v user (opened_on w volume) w.latest change passes served.sound)
+    (calls-bring v user (opened_on w volume) w.latest change long (moment-date w h) typed formed passes served.sound served.typed)
     h
 
 -- the row
 
-pub edits-row-sound : (call : Call) (volume : ℕ) (change : VolumeCall) (reply : VolumeState → Reply)
-    → ((v : VolumeState) (w : World) → is_refusal (volume_refusal v (opened_on w volume) change) ≡ true)
+pub edits-row-sound : (call : Call) (volume : ℕ) (change : VolumeCall) (reply : ℕ → VolumeState → Reply)
+    → ((v : VolumeState) (user : ℕ) (w : World) → is_refusal (volume_refusal v user (opened_on w volume) change) ≡ true)
     → (is_lawful_call call ≡ true → (is_formed_call change ≡ true) × (is_typed_volume_call change ≡ true))
-    → ((w : World) (v : VolumeState) → IsServed v volume → volume_refusal v (opened_on w volume) change ≡ None → IsToldTo call (reply v))
+    → ((w : World) (user : ℕ) (v : VolumeState) → IsServed v volume → volume_refusal v user (opened_on w volume) change ≡ None → IsToldTo call (reply user v))
     → IsSoundRow call (changes_volume volume change reply)
 edits-row-sound call volume change reply rightly ranges tells = record {
-  refuses = λ w s r is h. no_more-refuses call (on_volume w s volume (refuses w)) r is (on-refused w s volume (refuses w) (λ v. rightly v w));
-  sound = λ w s test lawful found passes h. sound w s lawful passes h;
+  refuses = λ w s r is h. no_more-refuses call (on_volume w s volume (refuses w s)) r is (on-refused w s volume (refuses w s) (λ v. rightly v (user_of s) w));
+  sound = λ w s test lawful found passes h. sound w s lawful passes (user-long w s test found h) h;
   fits = λ w s lawful passes h. (told w s passes h).short;
-  shown = λ w s lawful passes h known. told-shown call (done_on (volume_at w.volumes volume) w (does w)).reply (told w s passes h);
-  apart = λ w s test found a. done-keeps ApartSessions (volume_at w.volumes volume) w (does w) a
-      (λ v. edits-keep ApartSessions w volume v (edits w v) a (λ new. record { numbers = a.numbers; links = a.links; below = a.below }));
-  next = λ w s. done-keeps (λ x. x.next_link ≡ w.next_link) (volume_at w.volumes volume) w (does w) refl (λ v. edits-keep (λ x. x.next_link ≡ w.next_link) w volume v (edits w v) refl (λ new. refl));
-  keeper = λ w s index passes commits. edits-keeper w volume index (edits w) commits;
-  old = λ w s n h. done-keeps (λ x. has_session x.sessions n ≡ true → has_session w.sessions n ≡ true) (volume_at w.volumes volume) w (does w) (λ h. h)
-      (λ v. edits-keep (λ x. has_session x.sessions n ≡ true → has_session w.sessions n ≡ true) w volume v (edits w v) (λ h. h) (λ new h. h)) h;
-  cached = λ w s test found p h. done-keeps (λ x. list_all (λ y. p y.number y.cache) x.sessions ≡ true) (volume_at w.volumes volume) w (does w) h
-      (λ v. edits-keep (λ x. list_all (λ y. p y.number y.cache) x.sessions ≡ true) w volume v (edits w v) h (λ new. h));
-  leaves = λ stays w s. done-keeps (SessionsAfter (logs_in call) w s) (volume_at w.volumes volume) w (does w) (all_stay refl) (λ v. edits-keep (SessionsAfter (logs_in call) w s) w volume v (edits w v) (all_stay refl) (λ new. all_stay refl));
+  shown = λ w s lawful passes h known. told-shown call (done_on (volume_at w.volumes volume) w (does w s)).reply (told w s passes h);
+  apart = λ w s test found a. done-keeps ApartSessions (volume_at w.volumes volume) w (does w s) a
+      (λ v. edits-keep ApartSessions w volume v (edits w s v) a (λ new. record { numbers = a.numbers; links = a.links; below = a.below }));
+  next = λ w s. done-keeps (λ x. x.next_link ≡ w.next_link) (volume_at w.volumes volume) w (does w s) refl (λ v. edits-keep (λ x. x.next_link ≡ w.next_link) w volume v (edits w s v) refl (λ new. refl));
+  keeper = λ w s index passes commits. edits-keeper w volume index (edits w s) commits;
+  old = λ w s n h. done-keeps (λ x. has_session x.sessions n ≡ true → has_session w.sessions n ≡ true) (volume_at w.volumes volume) w (does w s) (λ h. h)
+      (λ v. edits-keep (λ x. has_session x.sessions n ≡ true → has_session w.sessions n ≡ true) w volume v (edits w s v) (λ h. h) (λ new h. h)) h;
+  cached = λ w s test found p h. done-keeps (λ x. list_all (λ y. p y.number y.cache) x.sessions ≡ true) (volume_at w.volumes volume) w (does w s) h
+      (λ v. edits-keep (λ x. list_all (λ y. p y.number y.cache) x.sessions ≡ true) w volume v (edits w s v) h (λ new. h));
+  leaves = λ stays w s. done-keeps (SessionsAfter (logs_in call) w s) (volume_at w.volumes volume) w (does w s) (all_stay refl) (λ v. edits-keep (SessionsAfter (logs_in call) w s) w volume v (edits w s v) (all_stay refl) (λ new. all_stay refl));
 }
   where
-    refuses : World → VolumeState → Option Code
-    refuses w v = volume_refusal v (opened_on w volume) change
+    refuses : World → Session → VolumeState → Option Code
+    refuses w s v = volume_refusal v (user_of s) (opened_on w volume) change
 
-    edits : World → VolumeState → List Edit
-    edits w v = call_edits v w.latest change
+    edits : World → Session → VolumeState → List Edit
+    edits w s v = call_edits v (user_of s) w.latest change
 
-    does : World → VolumeState → Effect
-    does w v = record { world = with_edits w volume v (call_edits v w.latest change); reply = reply v }
+    does : World → Session → VolumeState → Effect
+    does w s v = record { world = with_edits w volume v (call_edits v (user_of s) w.latest change); reply = reply (user_of s) v }
 
-    sound : (w : World) (s : Session) → is_lawful_call call ≡ true → first_holding (on_volume w s volume (λ v. volume_refusal v (opened_on w volume) change)) ≡ None → IsSound w → IsSound (done_on (volume_at w.volumes volume) w (does w)).world
-    sound w s lawful passes h =
-        let p = on-passes w s volume (λ v. volume_refusal v (opened_on w volume) change) passes in
+    sound : (w : World) (s : Session) → is_lawful_call call ≡ true → first_holding (on_volume w s volume (refuses w s)) ≡ None → is_long (user_of s) ≡ true → IsSound w → IsSound (done_on (volume_at w.volumes volume) w (does w s)).world
+    sound w s lawful passes long h =
+        let p = on-passes w s volume (refuses w s) passes in
         let r = ranges lawful in
-        subst (λ o. IsSound (done_on o w (does w)).world) (sym p.there) (change-sound w volume p.state change r.0 r.1 p.there p.passes h)
+        subst (λ o. IsSound (done_on o w (does w s)).world) (sym p.there) (change-sound w (user_of s) volume p.state change long r.0 r.1 p.there p.passes h)
 
-    told : (w : World) (s : Session) → first_holding (on_volume w s volume (λ v. volume_refusal v (opened_on w volume) change)) ≡ None → IsSound w → IsToldTo call (done_on (volume_at w.volumes volume) w (does w)).reply
+    told : (w : World) (s : Session) → first_holding (on_volume w s volume (refuses w s)) ≡ None → IsSound w → IsToldTo call (done_on (volume_at w.volumes volume) w (does w s)).reply
     told w s passes h =
-        let p = on-passes w s volume (λ v. volume_refusal v (opened_on w volume) change) passes in
-        subst (λ o. IsToldTo call (done_on o w (does w)).reply) (sym p.there) (tells w p.state (served-at w volume p.state h p.there) p.passes)
+        let p = on-passes w s volume (refuses w s) passes in
+        subst (λ o. IsToldTo call (done_on o w (does w s)).reply) (sym p.there) (tells w (user_of s) p.state (served-at w volume p.state h p.there) p.passes)

@@ -14,11 +14,11 @@ use Rattle.afp_serial.specs.World.{CallRow}
 
 -- FPAddAPPL
 abbrev pub add_appl_row : ℕ → ℕ → List ℕ → ℕ → PathValue → CallRow
-add_appl_row dt dir creator tag path = changes_volume dt (AddAPPL dir creator tag path) (λ v. replies.Empty)
+add_appl_row dt dir creator tag path = changes_volume dt (AddAPPL dir creator tag path) (λ user v. replies.Empty)
 
 -- FPRemoveAPPL
 abbrev pub remove_appl_row : ℕ → ℕ → List ℕ → PathValue → CallRow
-remove_appl_row dt dir creator path = changes_volume dt (RemoveAPPL dir creator path) (λ v. replies.Empty)
+remove_appl_row dt dir creator path = changes_volume dt (RemoveAPPL dir creator path) (λ user v. replies.Empty)
 
 -- FPGetAPPL: the tag, and the values of the mapping's file; what finds none was refused
 abbrev pub appl_reply : ℕ → ℕ → Option Values → Reply
@@ -31,5 +31,5 @@ get_appl_reply bits v opens (Some appl) = appl_reply bits appl.tag (get_appl_val
 
 abbrev pub get_appl_row : ℕ → List ℕ → ℕ → ℕ → CallRow
 get_appl_row dt creator index bits = tells_of dt
-    (λ w v. get_appl_refusal v creator index bits)
-    (λ w v. get_appl_reply bits v (opened_on w dt) (get_appl_mapping v creator index))
+    (λ w s v. get_appl_refusal v creator index bits)
+    (λ w s v. get_appl_reply bits v (opened_on w dt) (get_appl_mapping v creator index))

@@ -10,7 +10,7 @@ use Rattle.afp_serial.specs.ForkLaws.{CommitsChanges}
 use Rattle.afp_serial.specs.VolumeRows.{changes_volume}
 
 abbrev pub EditsAreCommitted : Type 0
-EditsAreCommitted = (volume : ℕ) (change : VolumeCall) (reply : VolumeState → Reply) → CommitsChanges (changes_volume volume change reply)
+EditsAreCommitted = (volume : ℕ) (change : VolumeCall) (reply : ℕ → VolumeState → Reply) → CommitsChanges (changes_volume volume change reply)
 
 abbrev pub CopiesAreCommitted : Type 0
 CopiesAreCommitted = (asked : CopyAsked) → CommitsChanges (copies asked)

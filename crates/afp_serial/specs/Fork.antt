@@ -14,7 +14,7 @@ use Rattle.volume_spec.specs.ForkEffect.{would_pass}
 use Rattle.volume_spec.specs.OpenFork.{fork_values, is_resource, open_fork_file, open_fork_refusal}
 use Rattle.volume_spec.specs.SetForkParms.{asks_length, has_no_length, length_in}
 use Rattle.volume_spec.specs.VolumeState.{Row as File, VolumeState}
-use Rattle.afp_serial.specs.World.{Effect, Refusal, CallRow, commits_nothing, plain, with_empty_reply, vol, refused_before, closing, is_open, volume_at, World, Session, OpenFork}
+use Rattle.afp_serial.specs.World.{Effect, Refusal, CallRow, commits_nothing, plain, with_empty_reply, vol, refused_before, closing, is_open, volume_at, World, Session, OpenFork, user_of}
 use Rattle.afp_serial.specs.OnFork.{OpenFile, bytes_of, is_locked, keeper_if, keeps_all, own_keeper, placed, row_on_fork, with_bytes}
 use Rattle.afp_serial.specs.OnVolume.{opened_on, refused_on}
 
@@ -78,9 +78,9 @@ denied_of w s asked (Some file) =
     ∷ []
 
 -- the file that is asked for, where the volume is there and the path leads to it
-abbrev pub file_asked : Option VolumeState → ℕ → PathValue → Option File
-file_asked None dir path = None
-file_asked (Some v) dir path = open_fork_file v dir path
+abbrev pub file_asked : Option VolumeState → ℕ → ℕ → PathValue → Option File
+file_asked None user dir path = None
+file_asked (Some v) user dir path = open_fork_file v user dir path
 
 -- the new open fork
 abbrev pub new_fork : World → Session → OpenAsked → File → OpenFork
@@ -99,8 +99,8 @@ opens_fork w s asked (Some file) =
 
 abbrev pub opens_asked : OpenAsked → ℕ → PathValue → CallRow
 opens_asked asked dir path = record {
-  refusals = λ w s. vol s asked.volume ∷ refused_before (refused_on (volume_at w.volumes asked.volume) (λ v. open_fork_refusal v asked.bits asked.access.write dir path)) (denied_of w s asked (file_asked (volume_at w.volumes asked.volume) dir path));
-  effect = λ w s. opens_fork w s asked (file_asked (volume_at w.volumes asked.volume) dir path);
+  refusals = λ w s. vol s asked.volume ∷ refused_before (refused_on (volume_at w.volumes asked.volume) (λ v. open_fork_refusal v (user_of s) asked.bits asked.access.read asked.access.write dir path)) (denied_of w s asked (file_asked (volume_at w.volumes asked.volume) (user_of s) dir path));
+  effect = λ w s. opens_fork w s asked (file_asked (volume_at w.volumes asked.volume) (user_of s) dir path);
   committed = commits_nothing;
 }
 

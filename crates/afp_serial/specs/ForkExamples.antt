@@ -5,7 +5,7 @@ use Rattle.afp_base.specs.DenyMode.{Fork}
 use Rattle.afp_base.specs.declared.code.Code.{Code}
 use Rattle.afp_base.specs.declared.code.Code.TheVariants.{AccessDenied, BitmapErr, DenyConflict, EOFErr, LockErr, NoMoreLocks, Ok, ParamErr, RangeNotLocked, RangeOverlap, TooManyFilesOpen}
 use Rattle.afp_replies.specs.Replies.{canonical_reply}
-use Rattle.volume_spec.specs.VolumeState.{Row as File, VolumeState, fresh_volume, new_row}
+use Rattle.volume_spec.specs.VolumeState.{Row as File, VolumeState, fresh_volume, guest, new_row}
 use Rattle.afp_serial.specs.Answer.{new_session}
 use Rattle.afp_serial.specs.World.{Effect, Refused, CallRow, World, Session, OpenFork, Lock, start_world}
 use Rattle.afp_serial.specs.Fork.{OpenAsked, access_of, close_fork_row, denied_of, get_fork_parms_row, opens_fork, set_fork_parms_row}
@@ -40,7 +40,7 @@ opening asked file = record { refusals = λ w s. denied_of w s asked (Some file)
 
 -- the bytes of a file, `f` of id 17 in the root of volume 1, and that volume
 abbrev pub some_file : List ℕ → File
-some_file bytes = record (new_row false 17 2 (0x66 ∷ []) 100) { data_fork = bytes }
+some_file bytes = record (new_row false guest 17 2 (0x66 ∷ []) 100) { data_fork = bytes }
 
 abbrev pub some_volume : List ℕ → VolumeState
 some_volume bytes = let fresh : VolumeState = fresh_volume (0x53 ∷ []) 100 in record fresh { rows = fresh.rows ++ some_file bytes ∷ [] }

@@ -19,7 +19,7 @@ use Rattle.afp_serial.specs.ExchangeFiles.{in_exchange, pair_on}
 use Rattle.afp_serial.specs.Fork.{length_for}
 use Rattle.afp_serial.specs.ForkBytes.{WriteAsked, is_from_end, write_start}
 use Rattle.afp_serial.specs.OnFork.{OpenFile, open_file}
-use Rattle.afp_serial.specs.World.{session_at, volume_at, World, Session, OpenFork, at_moment}
+use Rattle.afp_serial.specs.World.{session_at, user_of, volume_at, World, Session, OpenFork, at_moment}
 use Rattle.afp_serial.specs.WriteLaws.{ForkChange, becomes, puts, sets_length}
 
 -- the bytes of a fork, where its volume and its file are there
@@ -57,7 +57,7 @@ abbrev pub changes_by : World → Session → Fork → Call → List ForkChange
 changes_by w s fork (Write flag reference offset count piece) = through (open_file w s reference.0) fork (put_of (record { from_end = is_from_end flag; offset = offset; count = pos count; piece = piece }))
 changes_by w s fork (WriteExt flag reference offset count piece) = through (open_file w s reference.0) fork (put_of (record { from_end = is_from_end flag; offset = offset; count = count; piece = piece }))
 changes_by w s fork (SetForkParms reference bits tail) = through (open_file w s reference.0) fork (λ f. sets_length (length_for bits tail f))
-changes_by w s fork (ExchangeFiles volume dir second_dir path second_path) = exchanged_for w volume.0 fork (pair_on (volume_at w.volumes volume.0) dir.0 path second_dir.0 second_path)
+changes_by w s fork (ExchangeFiles volume dir second_dir path second_path) = exchanged_for w volume.0 fork (pair_on (volume_at w.volumes volume.0) (user_of s) dir.0 path second_dir.0 second_path)
 changes_by w s fork call = []
 
 abbrev pub changes_of : World → Session → Fork → Verdict → Outcome → List ForkChange

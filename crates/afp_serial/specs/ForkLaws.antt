@@ -118,8 +118,8 @@ EndIsShown = (call : Call) (asked : ReadAsked) (f : OpenFile) → is_read call �
 
 abbrev pub DenialIsShown : Type 0
 DenialIsShown =
-    (w : World) (flag : ℕ) (volume : VolumeId) (dir : NodeId) (bits mode : ℕ) (path : PathValue) (resource : Bool) (access : Access) (file : File) → IsSound w → is_outside file_mask bits ≡ false
-    → file_asked (volume_at w.volumes volume.0) dir.0 path ≡ Some file
+    (w : World) (user flag : ℕ) (volume : VolumeId) (dir : NodeId) (bits mode : ℕ) (path : PathValue) (resource : Bool) (access : Access) (file : File) → IsSound w → is_outside file_mask bits ≡ false
+    → file_asked (volume_at w.volumes volume.0) user dir.0 path ≡ Some file
     → let denied : Reply = opened_reply w (record { volume = volume.0; bits = bits; resource = resource; access = access }) 0 file in
     Shows denied (reply_kind (calls.OpenFork flag volume dir bits mode path)) DenyConflict (canonical_reply denied)
 

@@ -7,4 +7,4 @@ use Rattle.afp_serial.specs.World.{CallRow}
 use Rattle.afp_serial.specs.OnVolume.{tells_of}
 
 abbrev pub get_vol_parms_row : ℕ → ℕ → CallRow
-get_vol_parms_row volume bits = tells_of volume (λ w v. get_vol_parms_refusal bits) (λ w v. Params bits (Volume (volume_values v volume bits)))
+get_vol_parms_row volume bits = tells_of volume (λ w s v. get_vol_parms_refusal bits) (λ w s v. Params bits (Volume (volume_values v volume bits)))

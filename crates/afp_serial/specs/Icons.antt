@@ -12,7 +12,7 @@ use Rattle.afp_serial.specs.World.{CallRow}
 
 -- FPAddIcon
 abbrev pub add_icon_row : ℕ → List ℕ → List ℕ → ℕ → ℕ → List ℕ → CallRow
-add_icon_row dt creator kind icon_kind tag bits = changes_volume dt (AddIcon (icon_of creator kind icon_kind tag bits)) (λ v. Empty)
+add_icon_row dt creator kind icon_kind tag bits = changes_volume dt (AddIcon (icon_of creator kind icon_kind tag bits)) (λ user v. Empty)
 
 -- FPGetIcon: the bits of the icon that was found; what finds none was refused
 abbrev pub get_icon_reply : Option (List ℕ) → Reply
@@ -20,7 +20,7 @@ get_icon_reply None = Empty
 get_icon_reply (Some bits) = Piece bits
 
 abbrev pub get_icon_row : ℕ → List ℕ → List ℕ → ℕ → ℕ → CallRow
-get_icon_row dt creator kind icon_kind count = tells_of dt (λ w v. get_icon_refusal v creator kind icon_kind) (λ w v. get_icon_reply (get_icon_bits v creator kind icon_kind count))
+get_icon_row dt creator kind icon_kind count = tells_of dt (λ w s v. get_icon_refusal v creator kind icon_kind) (λ w s v. get_icon_reply (get_icon_bits v creator kind icon_kind count))
 
 -- FPGetIconInfo: what is told of the icon that was found, with the number of its bytes
 abbrev pub get_icon_info_reply : Option Icon → Reply
@@ -28,4 +28,4 @@ get_icon_info_reply None = Empty
 get_icon_info_reply (Some icon) = IconInfo icon.tag icon.kind icon.icon_kind (length icon.bits)
 
 abbrev pub get_icon_info_row : ℕ → List ℕ → ℕ → CallRow
-get_icon_info_row dt creator index = tells_of dt (λ w v. get_icon_info_refusal v creator index) (λ w v. get_icon_info_reply (get_icon_info_icon v creator index))
+get_icon_info_row dt creator index = tells_of dt (λ w s v. get_icon_info_refusal v creator index) (λ w s v. get_icon_info_reply (get_icon_info_icon v creator index))

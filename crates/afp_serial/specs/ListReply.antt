@@ -17,7 +17,7 @@ use Rattle.volume_spec.specs.Walk.{found}
 
 -- the entry of a node (AFP Reference, "FPEnumerate")
 abbrev pub list_entry : List Row → List Opened → ListAsked → Row → ListEntry
-list_entry rows opens asked row = record { values = node_values rows opens asked.file_bits asked.dir_bits row }
+list_entry rows opens asked row = record { values = node_values rows asked.user opens asked.file_bits asked.dir_bits row }
 
 -- the list of these nodes (AFP Reference, "FPEnumerate")
 unfoldable pub list_reply : List Row → List Opened → ListAsked → List Row → Reply
@@ -29,5 +29,5 @@ ListHasItsSize = (rows : List Row) (opens : List Opened) (asked : ListAsked) (no
 
 -- the law: where a list is not refused it is shown by some bytes, and has no more of them than were asked and fit in a reply
 abbrev pub ListIsShown : Type 0
-ListIsShown = (v : VolumeState) (opens : List Opened) (asked : ListAsked) (dir id : ℕ) (path : PathValue) → asked.count < 2 ^ 16 → enumerate_refusal v opens asked dir path ≡ None → found v.rows dir path ≡ Ok id → IsSoundVolume v → is_typed_volume v ≡ true
+ListIsShown = (v : VolumeState) (opens : List Opened) (asked : ListAsked) (dir id : ℕ) (path : PathValue) → asked.count < 2 ^ 16 → enumerate_refusal v opens asked dir path ≡ None → found v.rows asked.user dir path ≡ Ok id → IsSoundVolume v → is_typed_volume v ≡ true
     → FitsReply (list_reply v.rows opens asked (entries v.rows opens asked id)) × (length (canonical_reply (list_reply v.rows opens asked (entries v.rows opens asked id))) ≤ min asked.size payload_limit)

@@ -3,10 +3,10 @@ use Rattle.std.specs.Prelude.{ℕ, zero, suc, ◌==◌, List, [], ◌∷◌, fil
 use Rattle.afp_base.specs.declared.code.Code.{Code}
 use Rattle.afp_base.specs.declared.code.Code.TheVariants.{ParamErr}
 use Rattle.afp_replies.specs.declared.reply.Reply.{Reply}
-use Rattle.volume_spec.specs.Shared.{Opened}
+use Rattle.volume_spec.specs.Shared.{Opened, refused_else}
 use Rattle.volume_spec.specs.TreeSteps.{TreeCall, tree_refusal, tree_effect}
 use Rattle.volume_spec.specs.VolumeState.{VolumeState}
-use Rattle.afp_serial.specs.World.{Effect, Refusal, CallRow, commits_nothing, refused_before, with_empty_reply, vol, volume_at, World, Session, OpenFork}
+use Rattle.afp_serial.specs.World.{Effect, Refusal, CallRow, commits_nothing, refused_before, with_empty_reply, vol, volume_at, World, Session, OpenFork, user_of}
 
 -- what is refused of a volume; one that is not there counts as not opened
 abbrev pub refused_on : Option VolumeState → (VolumeState → Option Code) → Option Code
@@ -41,17 +41,22 @@ keeper_of zero = None
 keeper_of (suc index) = Some index
 
 -- the row of a call that tells something of a volume, and changes nothing
-abbrev pub tells_of : ℕ → (World → VolumeState → Option Code) → (World → VolumeState → Reply) → CallRow
+abbrev pub tells_of : ℕ → (World → Session → VolumeState → Option Code) → (World → Session → VolumeState → Reply) → CallRow
 tells_of volume refuses reply = record {
-  refusals = λ w s. on_volume w s volume (refuses w);
-  effect = λ w s. done_on (volume_at w.volumes volume) w (λ v. record { world = w; reply = reply w v });
+  refusals = λ w s. on_volume w s volume (refuses w s);
+  effect = λ w s. done_on (volume_at w.volumes volume) w (λ v. record { world = w; reply = reply w s v });
   committed = commits_nothing;
 }
 
--- the row of a call that changes the tree of a volume, and commits that to the volume's keeper; `reply` is of the volume as it was before the call
-abbrev pub changes_tree : ℕ → TreeCall → (VolumeState → Reply) → CallRow
-changes_tree volume call reply = record {
-  refusals = λ w s. on_volume w s volume (λ v. tree_refusal v (opened_on w volume) call);
-  effect = λ w s. done_on (volume_at w.volumes volume) w (λ v. record { world = with_volume_state w volume (tree_effect v w.latest call); reply = reply v });
+-- the row of a call that changes the tree of a volume, and commits that to the volume's keeper; behind what the volume refuses it may be refused as `behind`
+-- has it; `reply` is of the volume as it was before the call
+abbrev pub changes_tree_unless : (World → Option Code) → ℕ → TreeCall → (VolumeState → Reply) → CallRow
+changes_tree_unless behind volume call reply = record {
+  refusals = λ w s. on_volume w s volume (λ v. refused_else (behind w) (tree_refusal v (user_of s) (opened_on w volume) call));
+  effect = λ w s. done_on (volume_at w.volumes volume) w (λ v. record { world = with_volume_state w volume (tree_effect v (user_of s) w.latest call); reply = reply v });
   committed = λ w s. keeper_of volume;
 }
+
+-- where there is nothing behind that
+abbrev pub changes_tree : ℕ → TreeCall → (VolumeState → Reply) → CallRow
+changes_tree volume call reply = changes_tree_unless (λ w. None) volume call reply

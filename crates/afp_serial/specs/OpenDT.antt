@@ -6,7 +6,7 @@ use Rattle.afp_serial.specs.OnVolume.{tells_of}
 use Rattle.afp_serial.specs.World.{CallRow}
 
 abbrev pub open_dt_row : ℕ → CallRow
-open_dt_row volume = tells_of volume (λ w v. None) (λ w v. Desk volume)
+open_dt_row volume = tells_of volume (λ w s v. None) (λ w s v. Desk volume)
 
 abbrev pub close_dt_row : ℕ → CallRow
-close_dt_row dt = tells_of dt (λ w v. None) (λ w v. Empty)
+close_dt_row dt = tells_of dt (λ w s v. None) (λ w s v. Empty)

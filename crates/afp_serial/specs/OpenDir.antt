@@ -4,7 +4,7 @@ use Rattle.afp_names.specs.Path.{PathValue}
 use Rattle.afp_replies.specs.declared.reply.Reply.{Reply}
 use Rattle.afp_replies.specs.declared.reply.Reply.TheVariants.{Empty, Node}
 use Rattle.volume_spec.specs.OpenDir.{open_dir_refusal, open_dir_id}
-use Rattle.afp_serial.specs.World.{CallRow, commits_nothing, with_empty_reply, vol}
+use Rattle.afp_serial.specs.World.{CallRow, commits_nothing, with_empty_reply, vol, user_of}
 use Rattle.afp_serial.specs.CreateDir.{node_id}
 use Rattle.afp_serial.specs.OnVolume.{tells_of}
 
@@ -14,7 +14,7 @@ open_dir_reply None = Empty
 open_dir_reply (Some id) = Node (node_id id)
 
 abbrev pub open_dir_row : ℕ → ℕ → PathValue → CallRow
-open_dir_row volume dir path = tells_of volume (λ w v. open_dir_refusal v dir path) (λ w v. open_dir_reply (open_dir_id v dir path))
+open_dir_row volume dir path = tells_of volume (λ w s v. open_dir_refusal v (user_of s) dir path) (λ w s v. open_dir_reply (open_dir_id v (user_of s) dir path))
 
 abbrev pub close_dir_row : ℕ → CallRow
 close_dir_row volume = record {

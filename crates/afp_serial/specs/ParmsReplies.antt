@@ -17,5 +17,5 @@ abbrev pub VolumeIsShown : Type 0
 VolumeIsShown = (v : VolumeState) (id bits : ℕ) → id < 2 ^ 16 → get_vol_parms_refusal bits ≡ None → IsSoundVolume v → is_typed_volume v ≡ true → FitsReply (Params bits (Volume (volume_values v id bits)))
 
 abbrev pub NodeIsShown : Type 0
-NodeIsShown = (v : VolumeState) (opens : List Opened) (file_bits dir_bits dir : ℕ) (path : PathValue) (values : Values) → get_file_dir_parms_refusal v file_bits dir_bits dir path ≡ None
-    → get_file_dir_parms_values v opens file_bits dir_bits dir path ≡ Some values → IsSoundVolume v → is_typed_volume v ≡ true → FitsReply (FileDirParams file_bits dir_bits values)
+NodeIsShown = (v : VolumeState) (user : ℕ) (opens : List Opened) (file_bits dir_bits dir : ℕ) (path : PathValue) (values : Values) → get_file_dir_parms_refusal v user file_bits dir_bits dir path ≡ None
+    → get_file_dir_parms_values v user opens file_bits dir_bits dir path ≡ Some values → IsSoundVolume v → is_typed_volume v ≡ true → FitsReply (FileDirParams file_bits dir_bits values)

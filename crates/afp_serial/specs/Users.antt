@@ -1,5 +1,5 @@
 -- Who users and groups are, by id and by name (this profile).
-use Rattle.std.specs.Prelude.{ℕ, ◌==◌, Bool, true, ◌||◌, if◌then◌else◌, List, Option, None, Some, codes, find, option_map, bytes_eq}
+use Rattle.std.specs.Prelude.{ℕ, ◌==◌, Bool, true, ◌||◌, if◌then◌else◌, List, Option, None, Some, codes, find, map, option_map, bytes_eq}
 use Rattle.std.specs.List.{list_any}
 use Rattle.afp_replies.specs.Numbers.{group_id_to_name, group_id_to_utf8_name, user_id_to_name, user_id_to_utf8_name}
 use Rattle.afp_serial.specs.declared.user.User.{User}
@@ -18,6 +18,10 @@ everyone_id = only_group
 
 abbrev pub everyone_name : List ℕ
 everyone_name = codes "everyone"
+
+-- the ids of the users of a house
+abbrev pub user_ids : List User → List ℕ
+user_ids users = map (λ (user : User). user.id) users
 
 -- a user of the house by its id, and by exactly its name
 abbrev pub user_with_id : List User → ℕ → Option User

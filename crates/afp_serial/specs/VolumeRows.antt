@@ -6,7 +6,7 @@ use Rattle.volume_spec.specs.Edit.{Edit, after_call}
 use Rattle.volume_spec.specs.VolumeCalls.{VolumeCall, call_edits, volume_refusal}
 use Rattle.volume_spec.specs.VolumeState.{VolumeState}
 use Rattle.afp_serial.specs.OnVolume.{done_on, keeper_of, on_volume, opened_on, with_volume_state}
-use Rattle.afp_serial.specs.World.{CallRow, World, volume_at}
+use Rattle.afp_serial.specs.World.{CallRow, World, user_of, volume_at}
 
 -- the world in which a volume had these edits, and the keeper that they are committed to
 abbrev pub with_edits : World → ℕ → VolumeState → List Edit → World
@@ -22,10 +22,10 @@ abbrev pub edits_on : Option VolumeState → (VolumeState → List Edit) → Lis
 edits_on None edits = []
 edits_on (Some v) edits = edits v
 
--- the row of a call that changes a volume by edits; `reply` is of the volume as it was before the call
-abbrev pub changes_volume : ℕ → VolumeCall → (VolumeState → Reply) → CallRow
+-- the row of a call that changes a volume by edits; `reply` is for the user, of the volume as it was before the call
+abbrev pub changes_volume : ℕ → VolumeCall → (ℕ → VolumeState → Reply) → CallRow
 changes_volume volume call reply = record {
-  refusals = λ w s. on_volume w s volume (λ v. volume_refusal v (opened_on w volume) call);
-  effect = λ w s. done_on (volume_at w.volumes volume) w (λ v. record { world = with_edits w volume v (call_edits v w.latest call); reply = reply v });
-  committed = λ w s. keeper_of_edits volume (edits_on (volume_at w.volumes volume) (λ v. call_edits v w.latest call));
+  refusals = λ w s. on_volume w s volume (λ v. volume_refusal v (user_of s) (opened_on w volume) call);
+  effect = λ w s. done_on (volume_at w.volumes volume) w (λ v. record { world = with_edits w volume v (call_edits v (user_of s) w.latest call); reply = reply (user_of s) v });
+  committed = λ w s. keeper_of_edits volume (edits_on (volume_at w.volumes volume) (λ v. call_edits v (user_of s) w.latest call));
 }

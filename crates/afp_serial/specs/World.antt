@@ -1,9 +1,9 @@
 -- The world of the serial file server: one record of lists (this profile, after the AFP Reference's sessions, volumes, forks and desktop database).
-use Rattle.std.specs.Prelude.{ℕ, max, List, [], map, Option, None, zero, suc, ◌+◌, nat_le, ◌==◌, Bool, false, not, if◌then◌else◌, filter, find, slice_get, true, ◌∷◌, Some}
+use Rattle.std.specs.Prelude.{ℕ, max, List, [], map, Option, None, zero, suc, ◌+◌, nat_le, ◌==◌, Bool, false, not, if◌then◌else◌, filter, find, slice_get, true, ◌∷◌, Some, unwrap_or}
 use Rattle.afp_base.specs.Cached.{Kept}
 use Rattle.afp_base.specs.DenyMode.{Access, Fork}
 use Rattle.afp_base.specs.Overlap.{Range}
-use Rattle.volume_spec.specs.VolumeState.{VolumeState, fresh_volume}
+use Rattle.volume_spec.specs.VolumeState.{VolumeState, fresh_volume, guest}
 use Rattle.afp_serial.specs.declared.attachment.Attachment.{Attachment}
 use Rattle.afp_serial.specs.Household.{Household}
 use Rattle.afp_serial.specs.Limits.{detached_time}
@@ -86,6 +86,10 @@ is_expired now (Detached moment) = nat_le (moment + detached_time) now
 -- the session that has the link
 abbrev pub session_at : World → ℕ → Option Session
 session_at w link = find (λ s. is_on_link link s.place) w.sessions
+
+-- the user for whom a session calls, by its id; where nobody logged in its calls are refused before
+abbrev pub user_of : Session → ℕ
+user_of s = unwrap_or s.user guest
 
 -- the session has that volume open
 abbrev pub has_opened : Session → ℕ → Bool

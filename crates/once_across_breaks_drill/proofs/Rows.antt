@@ -19,7 +19,7 @@ use Rattle.afp_serial.specs.Lock.{LockAsked, has_lock, has_most_locks, is_met_by
 use Rattle.afp_serial.specs.OnFork.{OpenFile, is_met_by_other, open_file, on_fork, done_with, row_on_fork, with_bytes}
 use Rattle.afp_serial.specs.OnVolume.{changes_tree, done_on, opened_on, refused_on, with_volume_state}
 use Rattle.afp_serial.specs.Rows.{row}
-use Rattle.afp_serial.specs.World.{CallRow, Effect, Refusal, Session, World, refused_before, vol, volume_at}
+use Rattle.afp_serial.specs.World.{CallRow, Effect, Refusal, Session, World, refused_before, user_of, vol, volume_at}
 use Rattle.once_across_breaks_drill.specs.Laws.{is_of_law, on_link}
 
 -- the world in which that session is the only one, on a link, with a next link number
@@ -47,24 +47,24 @@ tree-steady volume call reply = record {
   latest = λ w s. latest w s (volume_at w.volumes volume);
 }
   where
-    does : World → VolumeState → Effect
-    does w v = record { world = with_volume_state w volume (tree_effect v w.latest call); reply = reply v }
+    does : World → Session → VolumeState → Effect
+    does w s v = record { world = with_volume_state w volume (tree_effect v (user_of s) w.latest call); reply = reply v }
 
-    done : (w : World) (s : Session) (link next : ℕ) (v : Option VolumeState) → done_on v (held w s link next) (does (held w s link next)) ≡ held_effect s link next (done_on v (held w s 0 0) (does (held w s 0 0)))
+    done : (w : World) (s : Session) (link next : ℕ) (v : Option VolumeState) → done_on v (held w s link next) (does (held w s link next) s) ≡ held_effect s link next (done_on v (held w s 0 0) (does (held w s 0 0) s))
     done w s link next None = refl
     done w s link next (Some v) = refl
 
-    house : (w : World) (s : Session) (v : Option VolumeState) → (done_on v (held w s 0 0) (does (held w s 0 0))).world.house ≡ w.house
+    house : (w : World) (s : Session) (v : Option VolumeState) → (done_on v (held w s 0 0) (does (held w s 0 0) s)).world.house ≡ w.house
     house w s None = refl
     house w s (Some v) = refl
 
-    latest : (w : World) (s : Session) (v : Option VolumeState) → (done_on v (held w s 0 0) (does (held w s 0 0))).world.latest ≡ w.latest
+    latest : (w : World) (s : Session) (v : Option VolumeState) → (done_on v (held w s 0 0) (does (held w s 0 0) s)).world.latest ≡ w.latest
     latest w s None = refl
     latest w s (Some v) = refl
 
 -- FPEnumerateExt2
 
-lists-steady : (volume : ℕ) (asked : ListAsked) (dir : ℕ) (path : PathValue) → IsSteady (lists volume asked dir path)
+lists-steady : (volume : ℕ) (asked : ℕ → ListAsked) (dir : ℕ) (path : PathValue) → IsSteady (lists volume asked dir path)
 unfolding opened_on
 lists-steady volume asked dir path = record {
   refusals = λ w s link next. refl;
@@ -73,18 +73,18 @@ lists-steady volume asked dir path = record {
   latest = λ w s. latest w s (volume_at w.volumes volume);
 }
   where
-    does : World → VolumeState → Effect
-    does w v = record { world = w; reply = enumerate_reply v (opened_on w volume) asked dir path }
+    does : World → Session → VolumeState → Effect
+    does w s v = record { world = w; reply = enumerate_reply v (opened_on w volume) (asked (user_of s)) dir path }
 
-    done : (w : World) (s : Session) (link next : ℕ) (v : Option VolumeState) → done_on v (held w s link next) (does (held w s link next)) ≡ held_effect s link next (done_on v (held w s 0 0) (does (held w s 0 0)))
+    done : (w : World) (s : Session) (link next : ℕ) (v : Option VolumeState) → done_on v (held w s link next) (does (held w s link next) s) ≡ held_effect s link next (done_on v (held w s 0 0) (does (held w s 0 0) s))
     done w s link next None = refl
     done w s link next (Some v) = refl
 
-    house : (w : World) (s : Session) (v : Option VolumeState) → (done_on v (held w s 0 0) (does (held w s 0 0))).world.house ≡ w.house
+    house : (w : World) (s : Session) (v : Option VolumeState) → (done_on v (held w s 0 0) (does (held w s 0 0) s)).world.house ≡ w.house
     house w s None = refl
     house w s (Some v) = refl
 
-    latest : (w : World) (s : Session) (v : Option VolumeState) → (done_on v (held w s 0 0) (does (held w s 0 0))).world.latest ≡ w.latest
+    latest : (w : World) (s : Session) (v : Option VolumeState) → (done_on v (held w s 0 0) (does (held w s 0 0) s)).world.latest ≡ w.latest
     latest w s None = refl
     latest w s (Some v) = refl
 
@@ -94,11 +94,11 @@ opens-steady : (asked : OpenAsked) (dir : ℕ) (path : PathValue) → IsSteady (
 unfolding opened_on opened_reply is_denied has_most_forks
 opens-steady asked dir path = record {
   refusals = λ w s link next.
-      ap (λ (d : List Refusal). vol s asked.volume ∷ refused_before (refused_on (volume_at w.volumes asked.volume) (λ v. open_fork_refusal v asked.bits asked.access.write dir path)) d)
-      (denied w s link next (file_asked (volume_at w.volumes asked.volume) dir path));
-  effect = λ w s link next. opens w s link next (file_asked (volume_at w.volumes asked.volume) dir path);
-  house = λ w s. house w s (file_asked (volume_at w.volumes asked.volume) dir path);
-  latest = λ w s. latest w s (file_asked (volume_at w.volumes asked.volume) dir path);
+      ap (λ (d : List Refusal). vol s asked.volume ∷ refused_before (refused_on (volume_at w.volumes asked.volume) (λ v. open_fork_refusal v (user_of s) asked.bits asked.access.read asked.access.write dir path)) d)
+      (denied w s link next (file_asked (volume_at w.volumes asked.volume) (user_of s) dir path));
+  effect = λ w s link next. opens w s link next (file_asked (volume_at w.volumes asked.volume) (user_of s) dir path);
+  house = λ w s. house w s (file_asked (volume_at w.volumes asked.volume) (user_of s) dir path);
+  latest = λ w s. latest w s (file_asked (volume_at w.volumes asked.volume) (user_of s) dir path);
 }
   where
     denied : (w : World) (s : Session) (link next : ℕ) (file : Option File) → denied_of (held w s link next) (on_link link s) asked file ≡ denied_of (held w s 0 0) (on_link 0 s) asked file
@@ -229,5 +229,5 @@ row-steady (OpenFork flag volume dir bits mode path) h = opens-steady (record { 
 row-steady (CloseFork reference) h = close-steady reference.0
 row-steady (ByteRangeLock flags reference offset length) h = lock-steady reference.0 (lock_asked flags offset length) (λ start. Start start)
 row-steady (Write flag reference offset count piece) h = write-steady reference.0 (record { from_end = is_from_end flag; offset = offset; count = pos count; piece = piece }) (λ end. End end)
-row-steady (EnumerateExt2 volume dir file_bits dir_bits count start size path) h = lists-steady volume.0 (asked_wide file_bits dir_bits count start size) dir.0 path
+row-steady (EnumerateExt2 volume dir file_bits dir_bits count start size path) h = lists-steady volume.0 (λ user. asked_wide user file_bits dir_bits count start size) dir.0 path
 row-steady call h = absurd (cc)
