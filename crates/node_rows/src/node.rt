@@ -1,12 +1,12 @@
 //! A file or directory of a volume.
 ghost use Rattle.std.specs.Prelude.{◌≡◌};
-ghost use Rattle.volume_spec.specs.VolumeState.{guest, new_row, open_to_all};
+ghost use Rattle.volume_spec.specs.VolumeState.{new_row, open_to_all};
 ghost use Rattle.node_rows.specs.Kept.{marked};
 
 use afp_base::{Moment, NodeId};
 use afp_names::Name;
 use std::marker::Model;
-use volume_spec::limits::{ALL_RIGHTS, GUEST, NEVER, ONLY_GROUP};
+use volume_spec::limits::{ALL_RIGHTS, NEVER, ONLY_GROUP};
 
 /// A file or directory without its forks (AFP Reference, "File and directory parameters"). Dates are
 /// seconds from 2000-01-01 00:00 GMT. The rights are those of everyone, of the group and of the owner, in this order; a file's owner,
@@ -40,10 +40,10 @@ impl Model for Node {
 }
 
 impl Node {
-    /// A new file or directory of no attributes (AFP Reference, "FPCreateFile", "FPCreateDir"). A directory is the guest's, and all have
-    /// all rights to it.
-    pub fn new(dir: bool, id: NodeId, parent: NodeId, name: Name, now: Moment) -> Node
-        ensures { result ≡ new_row dir id.0 parent.0 name now }
+    /// A new file or directory of no attributes (AFP Reference, "FPCreateFile", "FPCreateDir"). A directory is the user's who
+    /// makes it, and all have all rights to it.
+    pub fn new(dir: bool, user: u32, id: NodeId, parent: NodeId, name: Name, now: Moment) -> Node
+        ensures { result ≡ new_row dir user id.0 parent.0 name now }
     {
         let date = now.seconds() as i32;
         let node = Node {
@@ -61,15 +61,15 @@ impl Node {
             rights: [0; 3],
             name,
         };
-        if dir { node.open_to_all() } else { node }
+        if dir { node.open_to_all(user) } else { node }
     }
 
-    /// The node as the guest's, to which all have all rights.
-    fn open_to_all(self) -> Node
-        ensures { result ≡ record self { privileges = open_to_all guest } }
+    /// The node as a user's, to which all have all rights.
+    fn open_to_all(self, user: u32) -> Node
+        ensures { result ≡ record self { privileges = open_to_all user } }
     {
         Node {
-            owner: GUEST,
+            owner: user,
             group: ONLY_GROUP,
             rights: [ALL_RIGHTS; 3],
             ..self

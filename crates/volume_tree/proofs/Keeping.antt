@@ -13,7 +13,7 @@ use Rattle.volume_spec.specs.Edits.{has_children, changed_at}
 use Rattle.volume_spec.specs.Listing.{listed, children, row_key}
 use Rattle.volume_spec.specs.Order.{in_order, put_in, stands_before}
 use Rattle.volume_spec.specs.SoundVolume.{IsSoundVolume, fork_bytes}
-use Rattle.volume_spec.specs.VolumeState.{Row, fresh_volume, never, new_row}
+use Rattle.volume_spec.specs.VolumeState.{Row, fresh_volume, guest, never, new_row}
 use Rattle.afp_names.specs.Name.{name_fault}
 use Rattle.volume_tree.proofs.Showing.{any-shown}
 use Rattle.volume_tree.specs.Answered.{IsFoundNode}
@@ -64,7 +64,7 @@ children-are forks rows dir (Some id) is = sym (any-shown forks rows (λ (row : 
 -- a volume that nobody has used
 
 pub fresh-state : (name : List ℕ) (now : ℕ) (dates : Dates) (rows : RowsValue) (forks : Forks) (root : Row) → dates.created ≡ pos now → dates.modified ≡ pos now → dates.backup ≡ never
-    → rows.rows ≡ root ∷ [] → root ≡ new_row true 2 1 name now → rows.next_id ≡ 17 → forks ≡ [] → state_of name dates rows forks ≡ fresh_volume name now
+    → rows.rows ≡ root ∷ [] → root ≡ new_row true guest 2 1 name now → rows.next_id ≡ 17 → forks ≡ [] → state_of name dates rows forks ≡ fresh_volume name now
 unfolding rows_of
 fresh-state name now dates rows forks root created modified backup rows_are root_is next forks_are = λ i. record {
   name = name;
@@ -79,10 +79,10 @@ fresh-state name now dates rows forks root created modified backup rows_are root
 }
 
 pub fresh-kept : (name : List ℕ) (now : ℕ) (dates : Dates) (rows : RowsValue) (forks : Forks) (root : Row) → name_fault name ≡ None → dates.created ≡ pos now → dates.modified ≡ pos now → dates.backup ≡ never
-    → rows.rows ≡ root ∷ [] → root ≡ new_row true 2 1 name now → rows.next_id ≡ 17 → forks ≡ [] → IsKeptVolume name dates rows forks 0
+    → rows.rows ≡ root ∷ [] → root ≡ new_row true guest 2 1 name now → rows.next_id ≡ 17 → forks ≡ [] → IsKeptVolume name dates rows forks 0
 unfolding rows_of
 fresh-kept name now dates rows forks root good created modified backup rows_are root_is next forks_are =
-    let are : rows.rows ≡ new_row true 2 1 name now ∷ [] = rows_are ∙ ap (λ r. r ∷ []) root_is in
+    let are : rows.rows ≡ new_row true guest 2 1 name now ∷ [] = rows_are ∙ ap (λ r. r ∷ []) root_is in
     record {
       sound = subst IsSoundVolume (sym (fresh-state name now dates rows forks root created modified backup rows_are root_is next forks_are)) (fresh-sound name now good);
       files = (λ i. list_all (has_forks (forks_are i)) (are i));

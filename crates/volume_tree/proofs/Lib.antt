@@ -5,6 +5,7 @@ pub mod Steps
 pub mod UpSteps
 pub mod Keeping
 pub mod ModifiedDates
+pub mod SetMarks
 pub mod KeptEdits
 pub mod Edited
 pub mod Paths

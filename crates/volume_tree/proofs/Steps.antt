@@ -1,13 +1,14 @@
 -- One step of a walk, at a place of its steps.
-use Rattle.std.proofs.Common.{◌≡◌, ◌∙◌, ap, refl, ℕ, zero, suc, ◌+◌, ◌≤◌, ◌<◌, List, [], ◌∷◌, length, take, drop, Some, None, arith}
+use Rattle.std.proofs.Common.{◌≡◌, ◌∙◌, ap, refl, ℕ, zero, suc, ◌+◌, ◌≤◌, ◌<◌, true, false, List, [], ◌∷◌, length, take, drop, Some, None, arith}
 use Rattle.std.specs.Prelude.{Ok, Err, slice_get}
 use Rattle.std.proofs.lemmas.List.{drop_all}
 use Rattle.afp_base.specs.declared.code.Code.{Code}
-use Rattle.afp_base.specs.declared.code.Code.TheVariants.{ObjectNotFound, DirNotFound}
+use Rattle.afp_base.specs.declared.code.Code.TheVariants.{AccessDenied, ObjectNotFound, DirNotFound}
 use Rattle.afp_names.specs.declared.path.Step.{Step}
 use Rattle.afp_names.specs.declared.path.Step.TheVariants.{Up, Down}
 use Rattle.volume_spec.specs.VolumeState.{Row}
-use Rattle.volume_spec.specs.Walk.{parent_at, child, failed_down, onward, walk_from}
+use Rattle.volume_spec.specs.Walk.{parent_at, child, failed_down, onward, unless_closed, walk_from}
+use Rattle.volume_spec.specs.Rights.{is_closed}
 
 -- the steps from a place are the step there and those behind it
 at-place : {A : Type 0} (steps : List A) (i : ℕ) (step : A) → slice_get steps i ≡ Some step → drop i steps ≡ step ∷ drop (i + 1) steps
@@ -34,34 +35,42 @@ early-down missing [] j within = absurd (omega arith)
 early-down missing (s ∷ steps) zero within = refl
 early-down missing (s ∷ steps) (suc j) within = early-down missing steps j (omega arith)
 
-module _ (rows : List Row) (kind : ℕ) (missing : Code) (steps : List Step) (i here : ℕ) where
-  pub goes-up : (up : ℕ) → slice_get steps i ≡ Some Up → parent_at rows here ≡ Some up → walk_from rows kind missing (drop i steps) here ≡ walk_from rows kind missing (drop (i + 1) steps) up
+module _ (rows : List Row) (user kind : ℕ) (missing : Code) (steps : List Step) (i here : ℕ) where
+  pub goes-up : (up : ℕ) → slice_get steps i ≡ Some Up → parent_at rows here ≡ Some up → walk_from rows user kind missing (drop i steps) here ≡ walk_from rows user kind missing (drop (i + 1) steps) up
   goes-up up is found =
-      ap (λ l. walk_from rows kind missing l here) (at-place steps i Up is)
-      ∙ ap (λ o. onward o ObjectNotFound (walk_from rows kind missing (drop (i + 1) steps))) found
+      ap (λ l. walk_from rows user kind missing l here) (at-place steps i Up is)
+      ∙ ap (λ o. onward o ObjectNotFound (walk_from rows user kind missing (drop (i + 1) steps))) found
 
-  pub stops-up : slice_get steps i ≡ Some Up → parent_at rows here ≡ None → walk_from rows kind missing (drop i steps) here ≡ Err ObjectNotFound
+  pub stops-up : slice_get steps i ≡ Some Up → parent_at rows here ≡ None → walk_from rows user kind missing (drop i steps) here ≡ Err ObjectNotFound
   stops-up is found =
-      ap (λ l. walk_from rows kind missing l here) (at-place steps i Up is)
-      ∙ ap (λ o. onward o ObjectNotFound (walk_from rows kind missing (drop (i + 1) steps))) found
+      ap (λ l. walk_from rows user kind missing l here) (at-place steps i Up is)
+      ∙ ap (λ o. onward o ObjectNotFound (walk_from rows user kind missing (drop (i + 1) steps))) found
 
-  pub goes-down : (name : List ℕ) (down : ℕ) → slice_get steps i ≡ Some (Down name) → child rows kind here name ≡ Some down → walk_from rows kind missing (drop i steps) here ≡ walk_from rows kind missing (drop (i + 1) steps) down
-  goes-down name down is found =
-      ap (λ l. walk_from rows kind missing l here) (at-place steps i (Down name) is)
-      ∙ ap (λ o. onward o (failed_down missing (drop (i + 1) steps)) (walk_from rows kind missing (drop (i + 1) steps))) found
+  pub stops-closed : (name : List ℕ) → slice_get steps i ≡ Some (Down name) → is_closed rows user here ≡ true → walk_from rows user kind missing (drop i steps) here ≡ Err AccessDenied
+  stops-closed name is closed =
+      ap (λ l. walk_from rows user kind missing l here) (at-place steps i (Down name) is)
+      ∙ ap (λ b. unless_closed b (onward (child rows kind here name) (failed_down missing (drop (i + 1) steps)) (walk_from rows user kind missing (drop (i + 1) steps)))) closed
 
-  pub stops-down : (name : List ℕ) → slice_get steps i ≡ Some (Down name) → child rows kind here name ≡ None → length steps ≤ i + 1 → walk_from rows kind missing (drop i steps) here ≡ Err missing
-  stops-down name is found last =
-      ap (λ l. walk_from rows kind missing l here) (at-place steps i (Down name) is)
-      ∙ ap (λ o. onward o (failed_down missing (drop (i + 1) steps)) (walk_from rows kind missing (drop (i + 1) steps))) found
+  pub goes-down : (name : List ℕ) (down : ℕ) → slice_get steps i ≡ Some (Down name) → is_closed rows user here ≡ false → child rows kind here name ≡ Some down → walk_from rows user kind missing (drop i steps) here ≡ walk_from rows user kind missing (drop (i + 1) steps) down
+  goes-down name down is opens found =
+      ap (λ l. walk_from rows user kind missing l here) (at-place steps i (Down name) is)
+      ∙ ap (λ b. unless_closed b (onward (child rows kind here name) (failed_down missing (drop (i + 1) steps)) (walk_from rows user kind missing (drop (i + 1) steps)))) opens
+      ∙ ap (λ o. onward o (failed_down missing (drop (i + 1) steps)) (walk_from rows user kind missing (drop (i + 1) steps))) found
+
+  pub stops-down : (name : List ℕ) → slice_get steps i ≡ Some (Down name) → is_closed rows user here ≡ false → child rows kind here name ≡ None → length steps ≤ i + 1 → walk_from rows user kind missing (drop i steps) here ≡ Err missing
+  stops-down name is opens found last =
+      ap (λ l. walk_from rows user kind missing l here) (at-place steps i (Down name) is)
+      ∙ ap (λ b. unless_closed b (onward (child rows kind here name) (failed_down missing (drop (i + 1) steps)) (walk_from rows user kind missing (drop (i + 1) steps)))) opens
+      ∙ ap (λ o. onward o (failed_down missing (drop (i + 1) steps)) (walk_from rows user kind missing (drop (i + 1) steps))) found
       ∙ ap Err (last-down missing steps (i + 1) last)
 
-  pub stops-early : (name : List ℕ) → slice_get steps i ≡ Some (Down name) → child rows kind here name ≡ None → i + 1 < length steps → walk_from rows kind missing (drop i steps) here ≡ Err DirNotFound
-  stops-early name is found early =
-      ap (λ l. walk_from rows kind missing l here) (at-place steps i (Down name) is)
-      ∙ ap (λ o. onward o (failed_down missing (drop (i + 1) steps)) (walk_from rows kind missing (drop (i + 1) steps))) found
+  pub stops-early : (name : List ℕ) → slice_get steps i ≡ Some (Down name) → is_closed rows user here ≡ false → child rows kind here name ≡ None → i + 1 < length steps → walk_from rows user kind missing (drop i steps) here ≡ Err DirNotFound
+  stops-early name is opens found early =
+      ap (λ l. walk_from rows user kind missing l here) (at-place steps i (Down name) is)
+      ∙ ap (λ b. unless_closed b (onward (child rows kind here name) (failed_down missing (drop (i + 1) steps)) (walk_from rows user kind missing (drop (i + 1) steps)))) opens
+      ∙ ap (λ o. onward o (failed_down missing (drop (i + 1) steps)) (walk_from rows user kind missing (drop (i + 1) steps))) found
       ∙ ap Err (early-down missing steps (i + 1) early)
 
 -- no step is left
-pub no-steps : (rows : List Row) (kind : ℕ) (missing : Code) (steps : List Step) (i here : ℕ) → length steps ≤ i → walk_from rows kind missing (drop i steps) here ≡ Ok here
-no-steps rows kind missing steps i here past = ap (λ l. walk_from rows kind missing l here) (drop_all i steps past)
+pub no-steps : (rows : List Row) (user kind : ℕ) (missing : Code) (steps : List Step) (i here : ℕ) → length steps ≤ i → walk_from rows user kind missing (drop i steps) here ≡ Ok here
+no-steps rows user kind missing steps i here past = ap (λ l. walk_from rows user kind missing l here) (drop_all i steps past)

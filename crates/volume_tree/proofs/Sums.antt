@@ -36,6 +36,21 @@ unfolding lower_bytes
 lower-5 bits =
     more bits 0 2 ((2, 4) ∷ (3, 4) ∷ (4, 4) ∷ []) ∙ ap (λ n. size_asked bits 0 2 + n) (more bits 2 4 ((3, 4) ∷ (4, 4) ∷ []) ∙ ap (λ n. size_asked bits 2 4 + n) (more bits 3 4 ((4, 4) ∷ []) ∙ ap (λ n. size_asked bits 3 4 + n) (more bits 4 4 [])))
 
+pub lower-10 : (bits : ℕ) → lower_bytes bits 10 ≡ size_asked bits 0 2 + (size_asked bits 2 4 + (size_asked bits 3 4 + (size_asked bits 4 4 + (size_asked bits 5 32 + 0))))
+unfolding lower_bytes
+lower-10 bits =
+    more bits 0 2 ((2, 4) ∷ (3, 4) ∷ (4, 4) ∷ (5, 32) ∷ []) ∙ ap (λ n. size_asked bits 0 2 + n) (more bits 2 4 ((3, 4) ∷ (4, 4) ∷ (5, 32) ∷ []) ∙ ap (λ n. size_asked bits 2 4 + n) (more bits 3 4 ((4, 4) ∷ (5, 32) ∷ []) ∙ ap (λ n. size_asked bits 3 4 + n) (more bits 4 4 ((5, 32) ∷ []) ∙ ap (λ n. size_asked bits 4 4 + n) (more bits 5 32 []))))
+
+pub lower-11 : (bits : ℕ) → lower_bytes bits 11 ≡ size_asked bits 0 2 + (size_asked bits 2 4 + (size_asked bits 3 4 + (size_asked bits 4 4 + (size_asked bits 5 32 + (size_asked bits 10 4 + 0)))))
+unfolding lower_bytes
+lower-11 bits =
+    more bits 0 2 ((2, 4) ∷ (3, 4) ∷ (4, 4) ∷ (5, 32) ∷ (10, 4) ∷ []) ∙ ap (λ n. size_asked bits 0 2 + n) (more bits 2 4 ((3, 4) ∷ (4, 4) ∷ (5, 32) ∷ (10, 4) ∷ []) ∙ ap (λ n. size_asked bits 2 4 + n) (more bits 3 4 ((4, 4) ∷ (5, 32) ∷ (10, 4) ∷ []) ∙ ap (λ n. size_asked bits 3 4 + n) (more bits 4 4 ((5, 32) ∷ (10, 4) ∷ []) ∙ ap (λ n. size_asked bits 4 4 + n) (more bits 5 32 ((10, 4) ∷ []) ∙ ap (λ n. size_asked bits 5 32 + n) (more bits 10 4 [])))))
+
+pub lower-12 : (bits : ℕ) → lower_bytes bits 12 ≡ size_asked bits 0 2 + (size_asked bits 2 4 + (size_asked bits 3 4 + (size_asked bits 4 4 + (size_asked bits 5 32 + (size_asked bits 10 4 + (size_asked bits 11 4 + 0))))))
+unfolding lower_bytes
+lower-12 bits =
+    more bits 0 2 ((2, 4) ∷ (3, 4) ∷ (4, 4) ∷ (5, 32) ∷ (10, 4) ∷ (11, 4) ∷ []) ∙ ap (λ n. size_asked bits 0 2 + n) (more bits 2 4 ((3, 4) ∷ (4, 4) ∷ (5, 32) ∷ (10, 4) ∷ (11, 4) ∷ []) ∙ ap (λ n. size_asked bits 2 4 + n) (more bits 3 4 ((4, 4) ∷ (5, 32) ∷ (10, 4) ∷ (11, 4) ∷ []) ∙ ap (λ n. size_asked bits 3 4 + n) (more bits 4 4 ((5, 32) ∷ (10, 4) ∷ (11, 4) ∷ []) ∙ ap (λ n. size_asked bits 4 4 + n) (more bits 5 32 ((10, 4) ∷ (11, 4) ∷ []) ∙ ap (λ n. size_asked bits 5 32 + n) (more bits 10 4 ((11, 4) ∷ []) ∙ ap (λ n. size_asked bits 10 4 + n) (more bits 11 4 []))))))
+
 -- a tail that is not short has all that is asked
 pub long-enough : (bits : ℕ) (tail : List ℕ) → is_short_tail bits tail ≡ false → asked_bytes bits set_fields ≤ length tail
 unfolding is_short_tail

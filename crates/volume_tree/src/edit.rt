@@ -2,7 +2,7 @@
 ghost use Rattle.std.specs.Prelude.{◌≡◌, ◌≤◌, ◌<◌, true, false};
 ghost use Rattle.volume_spec.specs.EditLaws.{MayCome, MayGo, MayRename, MayMove};
 ghost use Rattle.volume_spec.specs.Edits.{filed_as, is_taken, renamed, with_changed, with_moved, with_row, without_node};
-ghost use Rattle.volume_spec.specs.SetFileDirParms.{has_sized_finder, with_settings};
+ghost use Rattle.volume_spec.specs.SetFileDirParms.{are_fit_settings, with_settings};
 ghost use Rattle.volume_spec.specs.SoundVolume.{IsSoundVolume, has_file, has_node, last_next_id};
 
 use crate::forks::FileForks;
@@ -123,7 +123,7 @@ impl Volume {
 
     /// Some fields of a node are set, if it is there.
     pub fn set_node(&mut self, id: NodeId, settings: &Settings)
-        requires { has_sized_finder settings.now ≡ true }
+        requires { are_fit_settings settings.now ≡ true }
         ensures state { self.new.state ≡ record self.old.state { rows = with_changed id.0 (with_settings settings.now) self.old.state.rows } }
         ensures spare { self.old.spare ≤ self.new.spare }
     {

@@ -74,9 +74,9 @@ fn is_named(step: &Step)
 }
 
 impl Volume {
-    /// The name of a node to which a path leads.
-    pub fn name_at(&self, dir: NodeId, path: &Path, id: NodeId) -> &Name
-        requires { found self.now.state.rows dir.0 path.now ≡ Ok id.0 }
+    /// The name of a node to which a path leads a user.
+    pub fn name_at(&self, user: u32, dir: NodeId, path: &Path, id: NodeId) -> &Name
+        requires { found self.now.state.rows user dir.0 path.now ≡ Ok id.0 }
         ensures { result.now ≡ name_of self.now.state.rows id.0 }
     {
         rows_are_changed_in_place();
@@ -87,22 +87,23 @@ impl Volume {
         }
     }
 
-    /// The new place that a path names: a directory, and the name in it.
+    /// The new place that a path names to a user: a directory, and the name in it.
     #[tactic(auto, unfolding(volume_spec::specs::Walk::new_place))]
     pub fn new_place<'a>(
         &self,
         alloc: Global,
+        user: u32,
         dir: NodeId,
         path: &'a Path,
     ) -> Result<(NodeId, &'a Name), PlanFault>
-        ensures place { IfOk result (λ place. new_place self.now.state.rows dir.0 path.now ≡ Ok (record { dir = place.0.0; name = place.1.now })) }
-        ensures fault { FailsAs result (new_place self.now.state.rows dir.0 path.now) }
+        ensures place { IfOk result (λ place. new_place self.now.state.rows user dir.0 path.now ≡ Ok (record { dir = place.0.0; name = place.1.now })) }
+        ensures fault { FailsAs result (new_place self.now.state.rows user dir.0 path.now) }
     {
         let name = match last_name(path) {
             Some(name) => name,
             None => return Err(PlanFault::Code(Code::ParamErr)),
         };
-        let at = match self.walk(alloc, Code::DirNotFound, dir, path, path.len() - 1) {
+        let at = match self.walk(alloc, user, Code::DirNotFound, dir, path, path.len() - 1) {
             Ok(at) => at,
             Err(fault) => return Err(fault),
         };

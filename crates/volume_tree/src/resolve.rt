@@ -27,30 +27,37 @@ impl From<OutOfMemory> for PlanFault {
 }
 
 impl Volume {
-    /// Where a path leads from a directory (AFP Reference, "Pathnames"). Want of memory comes for no other reason.
-    pub fn resolve(&self, alloc: Global, dir: NodeId, path: &Path) -> Result<NodeId, PlanFault>
-        ensures { Answers result (found self.now.state.rows dir.0 path.now) }
+    /// Where a path leads a user from a directory (AFP Reference, "Pathnames"). Want of memory comes for no other reason.
+    pub fn resolve(
+        &self,
+        alloc: Global,
+        user: u32,
+        dir: NodeId,
+        path: &Path,
+    ) -> Result<NodeId, PlanFault>
+        ensures { Answers result (found self.now.state.rows user dir.0 path.now) }
     {
-        self.walk(alloc, Code::ObjectNotFound, dir, path, path.len())
+        self.walk(alloc, user, Code::ObjectNotFound, dir, path, path.len())
     }
 
-    /// Where the first steps of a path lead from a directory. Where the last of them fails, `missing` is answered.
+    /// Where the first steps of a path lead a user from a directory. Where the last of them fails, `missing` is answered.
     #[tactic(auto, unfolding(volume_spec::specs::Walk::walk))]
     pub fn walk(
         &self,
         alloc: Global,
+        user: u32,
         missing: Code,
         dir: NodeId,
         path: &Path,
         count: usize,
     ) -> Result<NodeId, PlanFault>
         requires { count ≤ length path.now.steps }
-        ensures { Answers result (walk self.now.state.rows path.now.kind missing dir.0 (take count path.now.steps)) }
+        ensures { Answers result (walk self.now.state.rows user path.now.kind missing dir.0 (take count path.now.steps)) }
     {
         if dir.0 != ROOT_PARENT.0 && !self.is_directory(dir) {
             return Err(PlanFault::Code(Code::DirNotFound));
         }
-        match self.walk_steps(alloc, missing, dir, path, count) {
+        match self.walk_steps(alloc, user, missing, dir, path, count) {
             Ok(NodeId(1)) => Err(PlanFault::Code(Code::ObjectNotFound)),
             Ok(id) => Ok(id),
             Err(fault) => Err(fault),
@@ -59,17 +66,18 @@ impl Volume {
 }
 
 impl Volume {
-    /// Where the first steps of a path lead from a node.
+    /// Where the first steps of a path lead a user from a node.
     fn walk_steps(
         &self,
         alloc: Global,
+        user: u32,
         missing: Code,
         dir: NodeId,
         path: &Path,
         count: usize,
     ) -> Result<NodeId, PlanFault>
         requires { count ≤ length path.now.steps }
-        ensures { Answers result (walk_from self.now.state.rows path.now.kind missing (take count path.now.steps) dir.0) }
+        ensures { Answers result (walk_from self.now.state.rows user path.now.kind missing (take count path.now.steps) dir.0) }
     {
         let mut here = dir;
         for i in 0..count {
@@ -78,17 +86,22 @@ impl Volume {
                     Some(up) => here = up,
                     None => return Err(PlanFault::Code(Code::ObjectNotFound)),
                 },
-                Step::Down(name) => match self.step_down(alloc, path.kind(), here, name) {
-                    Ok(Some(down)) => here = down,
-                    Ok(None) => {
-                        return Err(PlanFault::Code(if i + 1 < count {
-                            Code::DirNotFound
-                        } else {
-                            missing
-                        }));
+                Step::Down(name) => {
+                    if self.is_closed(user, here) {
+                        return Err(PlanFault::Code(Code::AccessDenied));
                     }
-                    Err(_) => return Err(PlanFault::Memory),
-                },
+                    match self.step_down(alloc, path.kind(), here, name) {
+                        Ok(Some(down)) => here = down,
+                        Ok(None) => {
+                            return Err(PlanFault::Code(if i + 1 < count {
+                                Code::DirNotFound
+                            } else {
+                                missing
+                            }));
+                        }
+                        Err(_) => return Err(PlanFault::Memory),
+                    }
+                }
             }
         }
         Ok(here)

@@ -13,7 +13,8 @@ use volume_spec::limits::{DIRECTORY_ATTRIBUTES, FILE_ATTRIBUTES};
 /// cleared (AFP Reference, "File attributes").
 const SET_OR_CLEAR: u16 = 0x8000;
 
-/// What is set of a node, where it is: attributes by their word, dates, Finder info.
+/// What is set of a node, where it is: attributes by their word, dates, Finder info; of a directory also its owner, its group, and the rights of everyone, of
+/// the group and of the owner in this order.
 ///
 /// Contracts see the definition's settings.
 #[derive(Drop)]
@@ -23,6 +24,9 @@ pub struct Settings {
     pub modified: Option<i32>,
     pub backup: Option<i32>,
     pub finder: Option<[u8; 32]>,
+    pub owner: Option<u32>,
+    pub group: Option<u32>,
+    pub rights: Option<[u8; 3]>,
 }
 
 impl Model for Settings {
@@ -30,13 +34,13 @@ impl Model for Settings {
 
     ghost Value = { SettingsValue };
 
-    ghost view = { λ a. record { attributes = a.attributes; created = a.created; modified = a.modified; backup = a.backup; finder = a.finder } };
+    ghost view = { λ a. record { attributes = a.attributes; created = a.created; modified = a.modified; backup = a.backup; finder = a.finder; owner = a.owner; group = a.group; rights = a.rights } };
 }
 
 impl Settings {
     /// The modified date alone, which is a moment.
     pub fn dated(now: Moment) -> Settings
-        ensures { result ≡ record { attributes = None; created = None; modified = Some (pos now); backup = None; finder = None } }
+        ensures { result ≡ record { attributes = None; created = None; modified = Some (pos now); backup = None; finder = None; owner = None; group = None; rights = None } }
     {
         Settings {
             attributes: None,
@@ -44,6 +48,9 @@ impl Settings {
             modified: Some(now.seconds() as i32),
             backup: None,
             finder: None,
+            owner: None,
+            group: None,
+            rights: None,
         }
     }
 
@@ -63,7 +70,12 @@ impl Settings {
         let marks = with_created(marks, self.created);
         let marks = with_modified(marks, self.modified);
         let marks = with_backup(marks, self.backup);
-        with_finder(marks, self.finder)
+        let marks = with_finder(marks, self.finder);
+        if dir {
+            with_privileges(marks, self.owner, self.group, self.rights)
+        } else {
+            marks
+        }
     }
 }
 
@@ -129,5 +141,21 @@ fn with_finder(marks: Marks, info: Option<[u8; 32]>) -> Marks
     match info {
         Some(finder) => Marks { finder, ..marks },
         None => marks,
+    }
+}
+
+fn with_privileges(
+    marks: Marks,
+    owner: Option<u32>,
+    group: Option<u32>,
+    rights: Option<[u8; 3]>,
+) -> Marks
+    ensures { result ≡ record marks { owner = unwrap_or owner marks.owner; group = unwrap_or group marks.group; rights = unwrap_or rights marks.rights } }
+{
+    Marks {
+        owner: owner.unwrap_or(marks.owner),
+        group: group.unwrap_or(marks.group),
+        rights: rights.unwrap_or(marks.rights),
+        ..marks
     }
 }

@@ -2,13 +2,14 @@
 ghost use Rattle.std.specs.Prelude.{◌≡◌, ◌≤◌, ◌+◌, true, false, None, Some, take, drop, length, option_map, MatchOption, nat_lt};
 ghost use Rattle.byteorder.specs.Endian.{big_number};
 ghost use Rattle.volume_spec.specs.Parms.{date_in};
-ghost use Rattle.volume_spec.specs.SetFileDirParms.{asked_bytes, field_in, is_short_tail, set_fields, settings_in};
+ghost use Rattle.volume_spec.specs.SetFileDirParms.{asked_bytes, field_in, is_short_tail, rights_in, set_fields, settings_in};
 ghost use Rattle.volume_tree.specs.lemma.Tails.{lower_bytes, size_asked};
 
 use crate::settings::Settings;
 use afp_base::Scan;
 use afp_bitmap::is_asked;
 use byteorder::{BigEndian, ByteOrder};
+use volume_spec::limits::ALL_RIGHTS;
 
 /// The size of a field, where it is asked.
 fn size_asked(bits: u16, bit: u32, size: usize) -> usize
@@ -83,6 +84,34 @@ fn finder_in(bits: u16, tail: &[u8], bit: u32, at: usize) -> Option<[u8; 32]>
     }
 }
 
+fn id_in(bits: u16, tail: &[u8], bit: u32, at: usize) -> Option<u32>
+    requires bit { nat_lt bit 16 ≡ true }
+    requires at { at ≡ lower_bytes bits bit }
+    requires fits { at + size_asked bits bit 4 ≤ length tail.now }
+    ensures { result ≡ option_map (big_number 4) (field_in bits tail.now bit 4) }
+{
+    match field(bits, tail, bit, at, 4) {
+        Some(field) => Some(BigEndian::read_u32(field)),
+        None => None,
+    }
+}
+
+fn rights_in(bits: u16, tail: &[u8], bit: u32, at: usize) -> Option<[u8; 3]>
+    requires bit { nat_lt bit 16 ≡ true }
+    requires at { at ≡ lower_bytes bits bit }
+    requires fits { at + size_asked bits bit 4 ≤ length tail.now }
+    ensures { result ≡ option_map rights_in (field_in bits tail.now bit 4) }
+{
+    match field(bits, tail, bit, at, 4) {
+        Some(field) => Some([
+            field[1] & ALL_RIGHTS,
+            field[2] & ALL_RIGHTS,
+            field[3] & ALL_RIGHTS,
+        ]),
+        None => None,
+    }
+}
+
 /// How many bytes the fields take that are asked (AFP Reference, "FPSetFileDirParms").
 fn bytes_asked(bits: u16) -> usize
     ensures { result ≡ asked_bytes bits set_fields }
@@ -109,11 +138,17 @@ pub fn settings_in(bits: u16, tail: &[u8]) -> Settings
     let modified = created + size_asked(bits, 2, 4);
     let backup = modified + size_asked(bits, 3, 4);
     let finder = backup + size_asked(bits, 4, 4);
+    let owner = finder + size_asked(bits, 5, 32);
+    let group = owner + size_asked(bits, 10, 4);
+    let rights = group + size_asked(bits, 11, 4);
     Settings {
         attributes: word_in(bits, tail, 0, 0),
         created: date_in(bits, tail, 2, created),
         modified: date_in(bits, tail, 3, modified),
         backup: date_in(bits, tail, 4, backup),
         finder: finder_in(bits, tail, 5, finder),
+        owner: id_in(bits, tail, 10, owner),
+        group: id_in(bits, tail, 11, group),
+        rights: rights_in(bits, tail, 12, rights),
     }
 }

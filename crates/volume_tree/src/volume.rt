@@ -19,7 +19,7 @@ use sorted_map::SortedMap;
 use std::alloc::Global;
 use std::marker::Model;
 use volume_spec::laws::fresh_volumes_are_sound;
-use volume_spec::limits::{LAST_NEXT_ID, ROOT_ID, ROOT_PARENT_ID};
+use volume_spec::limits::{GUEST, LAST_NEXT_ID, ROOT_ID, ROOT_PARENT_ID};
 
 /// The id of the root directory, and that of its parent (AFP Reference, "Directory IDs").
 pub(crate) const ROOT: NodeId = NodeId(ROOT_ID);
@@ -92,7 +92,7 @@ impl Volume {
     {
         fresh_volumes_are_sound();
         let name = name_of(alloc, name)?;
-        let root = Node::new(true, ROOT, ROOT_PARENT, name.copy(alloc)?, now);
+        let root = Node::new(true, GUEST, ROOT, ROOT_PARENT, name.copy(alloc)?, now);
         let rows = Rows::new(alloc, root, 17)?;
         Ok(Volume {
             name,

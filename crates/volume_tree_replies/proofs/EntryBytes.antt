@@ -61,20 +61,20 @@ by-kind wide dir a b file_bits dir_bits size old new is size_is =
     same false true = refl
     same false false = refl
 
-module _ (rows : List Row) (opens : List Opened) (asked : ListAsked) (row : Row) (old new : List ℕ) (is : new ≡ with_body asked.wide row.dir old (params (bits_of asked.file_bits asked.dir_bits row) (node_values rows opens asked.file_bits asked.dir_bits row))) where
+module _ (rows : List Row) (opens : List Opened) (asked : ListAsked) (row : Row) (old new : List ℕ) (is : new ≡ with_body asked.wide row.dir old (params (bits_of asked.file_bits asked.dir_bits row) (node_values rows asked.user opens asked.file_bits asked.dir_bits row))) where
   pub body-size : length new ≡ length old + entry_size rows opens asked row
   unfolding entry_size
-  body-size = body-length asked.wide row.dir old new (params (bits_of asked.file_bits asked.dir_bits row) (node_values rows opens asked.file_bits asked.dir_bits row)) is
+  body-size = body-length asked.wide row.dir old new (params (bits_of asked.file_bits asked.dir_bits row) (node_values rows asked.user opens asked.file_bits asked.dir_bits row)) is
 
   pub body-front : take (length old) new ≡ old
   body-front =
-      let block : List ℕ = params (bits_of asked.file_bits asked.dir_bits row) (node_values rows opens asked.file_bits asked.dir_bits row) in
+      let block : List ℕ = params (bits_of asked.file_bits asked.dir_bits row) (node_values rows asked.user opens asked.file_bits asked.dir_bits row) in
       ap (λ l. take (length old) l) (is ∙ four old (replicate (width asked.wide) 0) (big_bytes 1 (flag_of row.dir)) (replicate (pad_count asked.wide) 0) block)
       ∙ take-append_seam old (replicate (width asked.wide) 0 ++ (big_bytes 1 (flag_of row.dir) ++ (replicate (pad_count asked.wide) 0 ++ block)))
 
   pub body-room : length old + width asked.wide ≤ length new
   unfolding entry_size
-  body-room = let size = body-size in room asked.wide (length old) (length new) (length (params (bits_of asked.file_bits asked.dir_bits row) (node_values rows opens asked.file_bits asked.dir_bits row))) size
+  body-room = let size = body-size in room asked.wide (length old) (length new) (length (params (bits_of asked.file_bits asked.dir_bits row) (node_values rows asked.user opens asked.file_bits asked.dir_bits row))) size
     where
       room : (wide : Bool) (a b n : ℕ) → b ≡ a + (entry_head wide + n) → a + width wide ≤ b
       room true a b n h = omega arith
@@ -83,7 +83,7 @@ module _ (rows : List Row) (opens : List Opened) (asked : ListAsked) (row : Row)
   pub entry-put : (size : ℕ) → size ≡ entry_size rows opens asked row
       → take (length old) new ++ big_bytes (width asked.wide) size ++ drop (length old + width asked.wide) new ≡ old ++ entry_bytes asked.wide asked.file_bits asked.dir_bits (list_entry rows opens asked row)
   unfolding entry_size node_values
-  entry-put size size_is = by-kind asked.wide row.dir (dir_values rows asked.dir_bits row) (file_values opens asked.file_bits row) asked.file_bits asked.dir_bits size old new is size_is
+  entry-put size size_is = by-kind asked.wide row.dir (dir_values rows asked.user asked.dir_bits row) (file_values opens asked.file_bits row) asked.file_bits asked.dir_bits size old new is size_is
 
 -- the size is what was put
 pub size-is : (a b : List ℕ) (before after : List ℕ) (n : ℕ) → a ≡ before → b ≡ after → length after ≡ length before + n → length b - length a ≡ n

@@ -14,7 +14,7 @@ use Rattle.volume_spec.specs.Shared.{Opened}
 use Rattle.afp_base.specs.Limits.{block_size, most_fork_bytes}
 use Rattle.volume_spec.specs.GetVolParms.{volume_attributes, fixed_directory_ids, free_bytes, volume_values}
 use Rattle.volume_spec.specs.Listing.{children}
-use Rattle.volume_spec.specs.NodeValues.{told_attributes, file_values, most_offspring, fixed_owner, fixed_group, all_rights, dir_values}
+use Rattle.volume_spec.specs.NodeValues.{told_attributes, file_values, most_offspring, dir_values, told_rights}
 use Rattle.volume_spec.specs.Parms.{asked_or}
 use Rattle.volume_spec.specs.VolumeState.{Row, VolumeState}
 use Rattle.volume_spec.proofs.ToldValues.{number-fits, date-fits, finder-fits}
@@ -52,11 +52,11 @@ file-fits opens bits row values is long short =
 
 -- the values of a directory
 
-told-dir : (rows : List Row) (bits : ℕ) (row : Row) → length (asked_or bits 6 [] (long_name_of row.name row.id)) < 256 → length (asked_or bits 13 [] row.name) < 256 → Fits bits (Dir (dir_values rows bits row))
+told-dir : (rows : List Row) (user bits : ℕ) (row : Row) → length (asked_or bits 6 [] (long_name_of row.name row.id)) < 256 → length (asked_or bits 13 [] row.name) < 256 → Fits bits (Dir (dir_values rows user bits row))
 unfolding dir_values table_rows dir_rows Fits
-told-dir rows bits row long short = (number-fits (is_asked bits 0) 2 row.attributes, (number-fits (is_asked bits 1) 4 row.parent, (date-fits (is_asked bits 2) row.created, (date-fits (is_asked bits 3) row.modified, (date-fits (is_asked bits 4) row.backup, (finder-fits (is_asked bits 5) row.finder, (long-fits (is_asked bits 6) (long_name_of row.name row.id) long, (number-fits (is_asked bits 8) 4 row.id, (number-fits (is_asked bits 9) 2 (min most_offspring (length (children rows row.id))), (number-fits (is_asked bits 10) 4 fixed_owner, (number-fits (is_asked bits 11) 4 fixed_group, (number-fits (is_asked bits 12) 4 all_rights, (utf8-fits (is_asked bits 13) row.name short, tt)))))))))))))
+told-dir rows user bits row long short = (number-fits (is_asked bits 0) 2 row.attributes, (number-fits (is_asked bits 1) 4 row.parent, (date-fits (is_asked bits 2) row.created, (date-fits (is_asked bits 3) row.modified, (date-fits (is_asked bits 4) row.backup, (finder-fits (is_asked bits 5) row.finder, (long-fits (is_asked bits 6) (long_name_of row.name row.id) long, (number-fits (is_asked bits 8) 4 row.id, (number-fits (is_asked bits 9) 2 (min most_offspring (length (children rows row.id))), (number-fits (is_asked bits 10) 4 row.privileges.owner, (number-fits (is_asked bits 11) 4 row.privileges.group, (number-fits (is_asked bits 12) 4 (told_rights row.privileges user), (utf8-fits (is_asked bits 13) row.name short, tt)))))))))))))
 
-pub dir-fits : (rows : List Row) (bits : ℕ) (row : Row) (values : DirValues) → values ≡ dir_values rows bits row → length values.long_name < 256 → length values.utf8_name < 256 → Fits bits (Dir values)
+pub dir-fits : (rows : List Row) (user bits : ℕ) (row : Row) (values : DirValues) → values ≡ dir_values rows user bits row → length values.long_name < 256 → length values.utf8_name < 256 → Fits bits (Dir values)
 unfolding dir_values
-dir-fits rows bits row values is long short =
-    subst (λ w. Fits bits (Dir w)) (sym is) (told-dir rows bits row (subst (λ (w : DirValues). length w.long_name < 256) is long) (subst (λ (w : DirValues). length w.utf8_name < 256) is short))
+dir-fits rows user bits row values is long short =
+    subst (λ w. Fits bits (Dir w)) (sym is) (told-dir rows user bits row (subst (λ (w : DirValues). length w.long_name < 256) is long) (subst (λ (w : DirValues). length w.utf8_name < 256) is short))

@@ -31,10 +31,10 @@ attribute-is v bit id node has s there is has_is =
     ∙ sym (test-found v.rows id (λ (r : Row). not (bit_and r.attributes bit == 0)) row.0 (ids-differ v s) row.1)
 
 -- what FPOpenFork finds is the row of the id to which the path leads
-pub opens-row : (v : VolumeState) (dir id : ℕ) (path : PathValue) → IsSoundVolume v → found v.rows dir path ≡ Ok id → has_node v.rows id ≡ true → has_file v.rows id ≡ true
-    → open_fork_file v dir path ≡ row_at v.rows id
+pub opens-row : (v : VolumeState) (user dir id : ℕ) (path : PathValue) → IsSoundVolume v → found v.rows user dir path ≡ Ok id → has_node v.rows id ≡ true → has_file v.rows id ≡ true
+    → open_fork_file v user dir path ≡ row_at v.rows id
 unfolding open_fork_file
-opens-row v dir id path s leads there file =
+opens-row v user dir id path s leads there file =
     let row = row-there v.rows id there in
     ap (λ (r : Result ℕ Code). done_at r None (λ id. file_of (row_at v.rows id))) leads
     ∙ ap file_of row.1
@@ -45,8 +45,8 @@ row-id : (rows : List Row) (id : ℕ) (row : Row) → row_at rows id ≡ Some ro
 unfolding row_at
 row-id rows id row there = eqb-true row.id id (find-passes (λ (r : Row). r.id == id) rows row there)
 
-pub opens-id : (v : VolumeState) (dir id : ℕ) (path : PathValue) → has_node v.rows id ≡ true → open_fork_file v dir path ≡ row_at v.rows id
-    → option_map (λ (file : Row). file.id) (open_fork_file v dir path) ≡ Some id
-opens-id v dir id path there is =
+pub opens-id : (v : VolumeState) (user dir id : ℕ) (path : PathValue) → has_node v.rows id ≡ true → open_fork_file v user dir path ≡ row_at v.rows id
+    → option_map (λ (file : Row). file.id) (open_fork_file v user dir path) ≡ Some id
+opens-id v user dir id path there is =
     let row = row-there v.rows id there in
     ap (option_map (λ (file : Row). file.id)) (is ∙ row.1) ∙ ap Some (row-id v.rows id row.0 row.1)

@@ -1,6 +1,7 @@
 pub mod Fitting
 pub mod Limits
 pub mod Nodes
+pub mod ToldRights
 pub mod NodeReplies
 pub mod Fronts
 pub mod EntryBytes

@@ -4,7 +4,7 @@ use Rattle.std.proofs.lemmas.List.{append_assoc, length-map}
 use Rattle.byteorder.specs.Endian.{big_bytes}
 use Rattle.afp_base.specs.Choice.{first_holding}
 use Rattle.afp_base.specs.declared.code.Code.{Code}
-use Rattle.afp_base.specs.declared.code.Code.TheVariants.{ObjectTypeErr, ObjectNotFound, ParamErr}
+use Rattle.afp_base.specs.declared.code.Code.TheVariants.{AccessDenied, ObjectTypeErr, ObjectNotFound, ParamErr}
 use Rattle.afp_replies.specs.Replies.{canonical_reply}
 use Rattle.afp_serial.specs.ListReply.{list_entry, list_reply}
 use Rattle.volume_spec.specs.Shared.{Opened}
@@ -30,17 +30,18 @@ list-bytes rows opens asked nodes old a b c d new file_bits dir_bits count at_co
     ∙ append_assoc old (big_bytes 2 asked.file_bits) (big_bytes 2 asked.dir_bits ++ (big_bytes 2 (length (map (list_entry rows opens asked) nodes)) ++ entries))
 
 -- what is refused where just the last test is left
-abbrev pub tests : Bool → Bool → Bool → Bool → Bool → Option Code
-tests dir none nowhere behind fits = first_holding (
+abbrev pub tests : Bool → Bool → Bool → Bool → Bool → Bool → Option Code
+tests dir lacking none nowhere behind fits = first_holding (
     (not dir, ObjectTypeErr)
+    ∷ (lacking, AccessDenied)
     ∷ (none, ParamErr)
     ∷ (nowhere, ParamErr)
     ∷ (behind, ObjectNotFound)
     ∷ (not fits, ParamErr)
     ∷ [])
 
-pub unfit-refused : (dir none nowhere behind fits : Bool) → dir ≡ true → none ≡ false → nowhere ≡ false → behind ≡ false → fits ≡ false → tests dir none nowhere behind fits ≡ Some ParamErr
-unfit-refused dir none nowhere behind fits a b c d e = λ i. tests (a i) (b i) (c i) (d i) (e i)
+pub unfit-refused : (dir lacking none nowhere behind fits : Bool) → dir ≡ true → lacking ≡ false → none ≡ false → nowhere ≡ false → behind ≡ false → fits ≡ false → tests dir lacking none nowhere behind fits ≡ Some ParamErr
+unfit-refused dir lacking none nowhere behind fits a b c d e f = λ i. tests (a i) (b i) (c i) (d i) (e i) (f i)
 
-pub none-refused : (dir none nowhere behind fits : Bool) → dir ≡ true → none ≡ false → nowhere ≡ false → behind ≡ false → fits ≡ true → tests dir none nowhere behind fits ≡ None
-none-refused dir none nowhere behind fits a b c d e = λ i. tests (a i) (b i) (c i) (d i) (e i)
+pub none-refused : (dir lacking none nowhere behind fits : Bool) → dir ≡ true → lacking ≡ false → none ≡ false → nowhere ≡ false → behind ≡ false → fits ≡ true → tests dir lacking none nowhere behind fits ≡ None
+none-refused dir lacking none nowhere behind fits a b c d e f = λ i. tests (a i) (b i) (c i) (d i) (e i) (f i)

@@ -39,24 +39,24 @@ by-kind false a b file_bits dir_bits before =
     ∙ ap (λ p. before ++ (big_bytes 2 file_bits ++ (big_bytes 2 dir_bits ++ (big_bytes 1 (flag_of false) ++ (big_bytes 1 0 ++ p))))) (sym (append-nil (params file_bits (File b))))
 
 -- the parts that are written, one behind the other, are the reply
-pub node-reply : (rows : List Row) (opens : List Opened) (file_bits dir_bits flag : ℕ) (dir : Bool) (node row : Row) (before a b c d : List ℕ) → IsRowOf rows node row
+pub node-reply : (rows : List Row) (user : ℕ) (opens : List Opened) (file_bits dir_bits flag : ℕ) (dir : Bool) (node row : Row) (before a b c d : List ℕ) → IsRowOf rows node row
     → a ≡ before ++ big_bytes 2 file_bits → b ≡ a ++ big_bytes 2 dir_bits → dir ≡ node.dir → flag ≡ flag_of dir → c ≡ b ++ big_bytes 1 flag → d ≡ c ++ big_bytes 1 0
-    → d ++ params (bits_of file_bits dir_bits row) (node_values rows opens file_bits dir_bits row) ≡ before ++ canonical_reply (FileDirParams file_bits dir_bits (node_values rows opens file_bits dir_bits row))
+    → d ++ params (bits_of file_bits dir_bits row) (node_values rows user opens file_bits dir_bits row) ≡ before ++ canonical_reply (FileDirParams file_bits dir_bits (node_values rows user opens file_bits dir_bits row))
 unfolding node_values
-node-reply rows opens file_bits dir_bits flag dir node row before a b c d is at_a at_b dir_is flag_is at_c at_d =
+node-reply rows user opens file_bits dir_bits flag dir node row before a b c d is at_a at_b dir_is flag_is at_c at_d =
     let flag_row : flag ≡ flag_of row.dir = flag_is ∙ ap flag_of (dir_is ∙ ap (λ (r : Row). r.dir) is.shown) in
-    ap (λ l. l ++ params (bits_of file_bits dir_bits row) (cond row.dir (Dir (dir_values rows dir_bits row)) (File (file_values opens file_bits row))))
+    ap (λ l. l ++ params (bits_of file_bits dir_bits row) (cond row.dir (Dir (dir_values rows user dir_bits row)) (File (file_values opens file_bits row))))
     (at_d ∙ ap (λ l. l ++ big_bytes 1 0) (at_c ∙ (λ i. (at_b ∙ ap (λ l. l ++ big_bytes 2 dir_bits) at_a) i ++ big_bytes 1 (flag_row i))))
-    ∙ by-kind row.dir (dir_values rows dir_bits row) (file_values opens file_bits row) file_bits dir_bits before
+    ∙ by-kind row.dir (dir_values rows user dir_bits row) (file_values opens file_bits row) file_bits dir_bits before
 
 -- the values that are told are those of the row that was found
-pub told-values : (v : VolumeState) (opens : List Opened) (file_bits dir_bits dir id : ℕ) (path : PathValue) (row : Row) (values : Values) → found v.rows dir path ≡ Ok id → row_at v.rows id ≡ Some row
-    → get_file_dir_parms_values v opens file_bits dir_bits dir path ≡ Some values → node_values v.rows opens file_bits dir_bits row ≡ values
+pub told-values : (v : VolumeState) (user : ℕ) (opens : List Opened) (file_bits dir_bits dir id : ℕ) (path : PathValue) (row : Row) (values : Values) → found v.rows user dir path ≡ Ok id → row_at v.rows id ≡ Some row
+    → get_file_dir_parms_values v user opens file_bits dir_bits dir path ≡ Some values → node_values v.rows user opens file_bits dir_bits row ≡ values
 unfolding get_file_dir_parms_values
-told-values v opens file_bits dir_bits dir id path row values leads there told =
-    let same : Some (node_values v.rows opens file_bits dir_bits row) ≡ Some values =
-    sym (ap (λ (r : Result ℕ Code). done_at r None (λ id. option_map (node_values v.rows opens file_bits dir_bits) (row_at v.rows id))) leads
-    ∙ ap (λ (o : Option Row). option_map (node_values v.rows opens file_bits dir_bits) o) there) ∙ told in
+told-values v user opens file_bits dir_bits dir id path row values leads there told =
+    let same : Some (node_values v.rows user opens file_bits dir_bits row) ≡ Some values =
+    sym (ap (λ (r : Result ℕ Code). done_at r None (λ id. option_map (node_values v.rows user opens file_bits dir_bits) (row_at v.rows id))) leads
+    ∙ ap (λ (o : Option Row). option_map (node_values v.rows user opens file_bits dir_bits) o) there) ∙ told in
     cc
 
 -- what a node that is there says of itself

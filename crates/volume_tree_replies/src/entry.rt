@@ -56,9 +56,10 @@ fn put_body(
 ) -> Result<(), OutOfMemory>
     requires files { IsWithin file_mask asked.now.file_bits }
     requires dirs { IsWithin dir_mask asked.now.dir_bits }
+    requires node { IsNode volume.now.state.rows node.now }
     ensures ok { OnOk result ((row : Row) → IsRowOf volume.now.state.rows node.now row
         → out.new ≡ out.old ++ replicate (width asked.now.wide) 0 ++ big_bytes 1 (flag_of row.dir) ++ replicate (pad_count asked.now.wide) 0
-        ++ params (bits_of asked.now.file_bits asked.now.dir_bits row) (node_values volume.now.state.rows (opened opens.now) asked.now.file_bits asked.now.dir_bits row)) }
+        ++ params (bits_of asked.now.file_bits asked.now.dir_bits row) (node_values volume.now.state.rows asked.now.user (opened opens.now) asked.now.file_bits asked.now.dir_bits row)) }
     ensures err { OnErr result (take (length out.old) out.new ≡ out.old) }
 {
     put_place(asked.wide, out)?;
@@ -67,6 +68,7 @@ fn put_body(
     put_node(
         alloc,
         volume,
+        asked.user,
         node,
         opens,
         asked.file_bits,

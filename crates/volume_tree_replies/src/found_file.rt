@@ -14,6 +14,7 @@ use afp_names::Path;
 use node_rows::Node;
 use std::alloc::Global;
 use volume_spec::laws::rows_are_changed_in_place;
+use volume_spec::limits::{READ_RIGHT, WRITE_RIGHT};
 use volume_tree::{PlanFault, Volume};
 
 /// The attribute of a file that must not be written to (AFP Reference, "File attributes").
@@ -45,32 +46,40 @@ fn is_write_inhibited(volume: &Volume, id: NodeId) -> bool
 }
 
 /// The id of the file to which a path leads, or why FPOpenFork is refused by the volume. `bits` are those of what is to be told of the file, and
-/// `writes` says whether the fork is to be written.
+/// `reads` and `writes` say whether the fork is to be read and to be written.
 #[tactic(auto, unfolding(volume_spec::specs::OpenFork::open_fork_refusal))]
 pub fn open_fork(
     alloc: Global,
     volume: &Volume,
+    user: u32,
     bits: u16,
+    reads: bool,
     writes: bool,
     dir: NodeId,
     path: &Path,
 ) -> Result<NodeId, PlanFault>
-    ensures refused { Refuses result (open_fork_refusal volume.now.state bits writes dir.0 path.now) }
+    ensures refused { Refuses result (open_fork_refusal volume.now.state user bits reads writes dir.0 path.now) }
     ensures file { IfOk result (λ id. has_file volume.now.state.rows id.0 ≡ true) }
-    ensures found { IfOk result (λ id. open_fork_file volume.now.state dir.0 path.now ≡ row_at volume.now.state.rows id.0) }
-    ensures id { IfOk result (λ id. option_map (λ (file : Row). file.id) (open_fork_file volume.now.state dir.0 path.now) ≡ Some id.0) }
+    ensures found { IfOk result (λ id. open_fork_file volume.now.state user dir.0 path.now ≡ row_at volume.now.state.rows id.0) }
+    ensures id { IfOk result (λ id. option_map (λ (file : Row). file.id) (open_fork_file volume.now.state user dir.0 path.now) ≡ Some id.0) }
 {
     rows_are_changed_in_place();
     volume.keeps_sound();
     if is_outside(FileBits::MASK, bits) {
         return Err(PlanFault::Code(Code::BitmapErr));
     }
-    let id = match volume.resolve(alloc, dir, path) {
+    let id = match volume.resolve(alloc, user, dir, path) {
         Ok(id) => id,
         Err(fault) => return Err(fault),
     };
     if !is_file(volume, id) {
         return Err(PlanFault::Code(Code::ObjectTypeErr));
+    }
+    if reads && volume.lacks_above(user, READ_RIGHT, id) {
+        return Err(PlanFault::Code(Code::AccessDenied));
+    }
+    if writes && volume.lacks_above(user, WRITE_RIGHT, id) {
+        return Err(PlanFault::Code(Code::AccessDenied));
     }
     if writes && is_write_inhibited(volume, id) {
         return Err(PlanFault::Code(Code::ObjectLocked));

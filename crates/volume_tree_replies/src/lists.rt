@@ -22,6 +22,7 @@ use deny_modes::VolumeOpens;
 use node_rows::Node;
 use std::alloc::Global;
 use volume_spec::laws::rows_are_changed_in_place;
+use volume_spec::limits::READ_RIGHT;
 use volume_tree::{PlanFault, Volume};
 
 /// The bytes of a list before its entries: the bits of files, those of directories, how many entries there are (AFP Reference,
@@ -183,6 +184,9 @@ fn list_of(
     if !is_directory(volume, id) {
         return Err(PlanFault::Code(Code::ObjectTypeErr));
     }
+    if volume.lacks(asked.user, READ_RIGHT, id) {
+        return Err(PlanFault::Code(Code::AccessDenied));
+    }
     if most(asked) == 0 || start(asked) == 0 {
         return Err(PlanFault::Code(Code::ParamErr));
     }
@@ -217,7 +221,7 @@ pub fn list(
     out: &mut Bytes,
 ) -> Result<(), PlanFault>
     ensures refused { Refuses result (enumerate_refusal volume.now.state (opened opens.now) asked.now dir.0 path.now) }
-    ensures ok { OnOk result ((id : ℕ) → found volume.now.state.rows dir.0 path.now ≡ Ok id
+    ensures ok { OnOk result ((id : ℕ) → found volume.now.state.rows asked.now.user dir.0 path.now ≡ Ok id
         → out.new ≡ out.old ++ canonical_reply (list_reply volume.now.state.rows (opened opens.now) asked.now (entries volume.now.state.rows (opened opens.now) asked.now id))) }
     ensures err { OnErr result (out.new ≡ out.old) }
 {
@@ -232,7 +236,7 @@ pub fn list(
     if asked.file_bits == 0 && asked.dir_bits == 0 {
         return Err(PlanFault::Code(Code::BitmapErr));
     }
-    let id = match volume.resolve(alloc, dir, path) {
+    let id = match volume.resolve(alloc, asked.user, dir, path) {
         Ok(id) => id,
         Err(fault) => return Err(fault),
     };

@@ -12,7 +12,7 @@ ghost use Rattle.volume_spec.specs.OpenDir.{open_dir_refusal, open_dir_id};
 ghost use Rattle.volume_spec.specs.SoundVolume.{has_node};
 ghost use Rattle.volume_spec.specs.VolumeState.{Row};
 ghost use Rattle.volume_spec.specs.Walk.{has_directory};
-ghost use Rattle.volume_tree_replies.specs.lemma.Told.{IsRowOf};
+ghost use Rattle.volume_tree_replies.specs.lemma.Told.{IsNode, IsRowOf};
 ghost use Rattle.volume_tree.specs.Answered.{Refuses};
 ghost use Rattle.volume_tree.specs.Shown.{opened};
 
@@ -74,6 +74,7 @@ pub fn get_vol_parms(
 fn put_node_parms(
     alloc: Global,
     volume: &Volume,
+    user: u32,
     node: &Node,
     opens: &VolumeOpens<'_>,
     file_bits: u16,
@@ -82,15 +83,16 @@ fn put_node_parms(
 ) -> Result<(), OutOfMemory>
     requires files { IsWithin file_mask file_bits }
     requires dirs { IsWithin dir_mask dir_bits }
+    requires node { IsNode volume.now.state.rows node.now }
     ensures ok { OnOk result ((row : Row) → IsRowOf volume.now.state.rows node.now row
-        → out.new ≡ out.old ++ canonical_reply (replies.FileDirParams file_bits dir_bits (node_values volume.now.state.rows (opened opens.now) file_bits dir_bits row))) }
+        → out.new ≡ out.old ++ canonical_reply (replies.FileDirParams file_bits dir_bits (node_values volume.now.state.rows user (opened opens.now) file_bits dir_bits row))) }
     ensures err { OnErr result (take (length out.old) out.new ≡ out.old) }
 {
     out.push_u16(file_bits)?;
     out.push_u16(dir_bits)?;
     out.push_u8(flag_of(is_dir(node)))?;
     out.push_u8(0)?;
-    put_node(alloc, volume, node, opens, file_bits, dir_bits, out)
+    put_node(alloc, volume, user, node, opens, file_bits, dir_bits, out)
 }
 
 /// Appends the reply to FPGetFileDirParms, or tells why it is refused. `opens` tells which forks of the volume are open. An
@@ -99,6 +101,7 @@ fn put_node_parms(
 pub fn get_file_dir_parms(
     alloc: Global,
     volume: &Volume,
+    user: u32,
     opens: &VolumeOpens<'_>,
     file_bits: u16,
     dir_bits: u16,
@@ -106,8 +109,8 @@ pub fn get_file_dir_parms(
     path: &Path,
     out: &mut Bytes,
 ) -> Result<(), PlanFault>
-    ensures refused { Refuses result (get_file_dir_parms_refusal volume.now.state file_bits dir_bits dir.0 path.now) }
-    ensures ok { OnOk result ((values : values.Values) → get_file_dir_parms_values volume.now.state (opened opens.now) file_bits dir_bits dir.0 path.now ≡ Some values
+    ensures refused { Refuses result (get_file_dir_parms_refusal volume.now.state user file_bits dir_bits dir.0 path.now) }
+    ensures ok { OnOk result ((values : values.Values) → get_file_dir_parms_values volume.now.state user (opened opens.now) file_bits dir_bits dir.0 path.now ≡ Some values
         → out.new ≡ out.old ++ canonical_reply (replies.FileDirParams file_bits dir_bits values)) }
     ensures err { OnErr result (out.new ≡ out.old) }
 {
@@ -119,13 +122,13 @@ pub fn get_file_dir_parms(
     if is_outside(DirBits::MASK, dir_bits) {
         return Err(PlanFault::Code(Code::BitmapErr));
     }
-    let id = match volume.resolve(alloc, dir, path) {
+    let id = match volume.resolve(alloc, user, dir, path) {
         Ok(id) => id,
         Err(fault) => return Err(fault),
     };
     let node = node_at(volume, id);
     let before = out.as_slice().len();
-    match put_node_parms(alloc, volume, node, opens, file_bits, dir_bits, out) {
+    match put_node_parms(alloc, volume, user, node, opens, file_bits, dir_bits, out) {
         Ok(()) => Ok(()),
         Err(_) => {
             out.truncate(before);
@@ -148,15 +151,16 @@ pub(crate) fn is_directory(volume: &Volume, id: NodeId) -> bool
 pub fn open_dir(
     alloc: Global,
     volume: &Volume,
+    user: u32,
     dir: NodeId,
     path: &Path,
 ) -> Result<NodeId, PlanFault>
-    ensures refused { Refuses result (open_dir_refusal volume.now.state dir.0 path.now) }
-    ensures id { IfOk result (λ id. open_dir_id volume.now.state dir.0 path.now ≡ Some id.0) }
+    ensures refused { Refuses result (open_dir_refusal volume.now.state user dir.0 path.now) }
+    ensures id { IfOk result (λ id. open_dir_id volume.now.state user dir.0 path.now ≡ Some id.0) }
 {
     rows_are_changed_in_place();
     volume.keeps_sound();
-    let id = match volume.resolve(alloc, dir, path) {
+    let id = match volume.resolve(alloc, user, dir, path) {
         Ok(id) => id,
         Err(fault) => return Err(fault),
     };

@@ -1,5 +1,5 @@
 -- The marks of a node after a change, for private contracts (the form is this profile's).
-use Rattle.std.specs.Prelude.{Bool, option_map, unwrap_or}
+use Rattle.std.specs.Prelude.{Bool, option_map, unwrap_or, if◌then◌else◌}
 use Rattle.node_rows.specs.declared.node.Marks.{Marks}
 use Rattle.volume_spec.specs.SetFileDirParms.{Settings, attributes_by}
 
@@ -12,7 +12,7 @@ marks_after s dir marks = record {
   backup = unwrap_or s.backup marks.backup;
   finder = unwrap_or s.finder marks.finder;
   filed = marks.filed;
-  owner = marks.owner;
-  group = marks.group;
-  rights = marks.rights;
+  owner = if dir then unwrap_or s.owner marks.owner else marks.owner;
+  group = if dir then unwrap_or s.group marks.group else marks.group;
+  rights = if dir then unwrap_or s.rights marks.rights else marks.rights;
 }

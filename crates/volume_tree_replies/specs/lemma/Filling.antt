@@ -4,12 +4,13 @@ use Rattle.std.specs.List.{concat, filter}
 use Rattle.afp_base.specs.Limits.{payload_limit}
 use Rattle.afp_base.specs.Choice.{first_holding}
 use Rattle.afp_base.specs.declared.code.Code.{Code}
-use Rattle.afp_base.specs.declared.code.Code.TheVariants.{ObjectTypeErr, ObjectNotFound, ParamErr}
+use Rattle.afp_base.specs.declared.code.Code.TheVariants.{AccessDenied, ObjectTypeErr, ObjectNotFound, ParamErr}
 use Rattle.afp_replies.specs.Entry.{entry_bytes}
 use Rattle.afp_serial.specs.ListReply.{list_entry}
 use Rattle.volume_spec.specs.Shared.{Opened}
 use Rattle.volume_spec.specs.Enumerate.{ListAsked, counted_children, entry_size, fits_reply, from_start, is_counted, longest_entry}
 use Rattle.volume_spec.specs.Listing.{listed}
+use Rattle.volume_spec.specs.Rights.{lacks, read_right}
 use Rattle.volume_spec.specs.VolumeState.{Row, VolumeState}
 use Rattle.volume_spec.specs.Walk.{has_directory}
 
@@ -52,6 +53,7 @@ IsStart rows asked dir (Some place) = (nat_lt (length (counted_children rows ask
 abbrev pub list_refusal : VolumeState → List Opened → ListAsked → ℕ → Option Code
 list_refusal v opens asked id = first_holding (
     (not (has_directory v.rows id), ObjectTypeErr)
+    ∷ (lacks v.rows asked.user read_right id, AccessDenied)
     ∷ (asked.count == 0, ParamErr)
     ∷ (asked.start == 0, ParamErr)
     ∷ (nat_lt (length (counted_children v.rows asked id)) asked.start, ObjectNotFound)

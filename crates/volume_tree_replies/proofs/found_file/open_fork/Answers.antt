@@ -6,13 +6,13 @@ use Rattle.volume_tree_replies.proofs.found_file.open_fork.Goals as goal
 pub returns-clause-found : goal.returns-clause-found
 returns-clause-found c =
     let v = c.args.volume.now.state in
-    let there : has_node v.rows c.in-Ok.id.0 ≡ true = c.rows_are_changed_in_place.ensures.walks v c.args.dir.0 c.in-Ok.id.0 c.args.path.now c.keeps_sound.ensures c.in-Ok.ensures in
+    let there : has_node v.rows c.in-Ok.id.0 ≡ true = c.rows_are_changed_in_place.ensures.walks v c.args.user c.args.dir.0 c.in-Ok.id.0 c.args.path.now c.keeps_sound.ensures c.in-Ok.ensures in
     let file : has_file v.rows c.in-Ok.id.0 ≡ true = search rules in
-    opens-row v c.args.dir.0 c.in-Ok.id.0 c.args.path.now c.keeps_sound.ensures c.in-Ok.ensures there file
+    opens-row v c.args.user c.args.dir.0 c.in-Ok.id.0 c.args.path.now c.keeps_sound.ensures c.in-Ok.ensures there file
 
 pub returns-clause-id : goal.returns-clause-id
 returns-clause-id c =
     let v = c.args.volume.now.state in
-    let there : has_node v.rows c.in-Ok.id.0 ≡ true = c.rows_are_changed_in_place.ensures.walks v c.args.dir.0 c.in-Ok.id.0 c.args.path.now c.keeps_sound.ensures c.in-Ok.ensures in
+    let there : has_node v.rows c.in-Ok.id.0 ≡ true = c.rows_are_changed_in_place.ensures.walks v c.args.user c.args.dir.0 c.in-Ok.id.0 c.args.path.now c.keeps_sound.ensures c.in-Ok.ensures in
     let file : has_file v.rows c.in-Ok.id.0 ≡ true = search rules in
-    opens-id v c.args.dir.0 c.in-Ok.id.0 c.args.path.now there (opens-row v c.args.dir.0 c.in-Ok.id.0 c.args.path.now c.keeps_sound.ensures c.in-Ok.ensures there file)
+    opens-id v c.args.user c.args.dir.0 c.in-Ok.id.0 c.args.path.now there (opens-row v c.args.user c.args.dir.0 c.in-Ok.id.0 c.args.path.now c.keeps_sound.ensures c.in-Ok.ensures there file)

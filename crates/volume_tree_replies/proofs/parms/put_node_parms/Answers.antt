@@ -8,5 +8,5 @@ pub returns-clause-ok : goal.returns-clause-ok
 returns-clause-ok c =
     on-ok c.put_node.result c.put_node.ensures.ok (λ is row of_row.
     is row of_row
-    ∙ node-reply c.args.volume.now.state.rows (opened c.args.opens.now) c.args.file_bits c.args.dir_bits c.flag_of.result c.is_dir.result c.args.node.now row c.args.out.now c.push_u16.new.self c.push_u16-2.new.self
+    ∙ node-reply c.args.volume.now.state.rows c.args.user (opened c.args.opens.now) c.args.file_bits c.args.dir_bits c.flag_of.result c.is_dir.result c.args.node.now row c.args.out.now c.push_u16.new.self c.push_u16-2.new.self
     c.push_u8.new.self c.push_u8-2.new.self of_row c.in_ok-push_u16.ensures.ok c.in_ok-push_u16-2.ensures.ok c.is_dir.ensures c.flag_of.ensures c.in_ok-push_u8.ensures.ok c.in_ok-push_u8-2.ensures.ok)

@@ -10,7 +10,7 @@ use Rattle.node_rows.proofs.rows.Rows.mark.Goals as goal
 pub invariant_of-self : goal.invariant_of-self
 invariant_of-self c =
     let rows : List Row = c.self.inside.nodes.items in
-    let d : Row = new_row true 0 0 [] 0 in
+    let d : Row = new_row true 0 0 0 [] 0 in
     let place : IsPlaceOf rows c.args.id.0 (Some c.in-Some.place) = is-place rows c.as_slice.result.now c.args.id.0 c.in-Some.place c.find_node.result c.as_slice.ensures.value c.find_node.ensures c.in-Some.is in
     let changed : c.set_marks.new.nodes.items ≡ with_changed c.args.id.0 (marked c.args.marks) rows = c.set_marks.ensures.items d ∙ sym (changed-default (marked c.args.marks) rows c.args.id.0 c.in-Some.place d c.self.invariant.rising place) in
     subst (λ l. AreKept l c.self.inside.children.items c.self.inside.next) (sym changed)
@@ -19,7 +19,7 @@ invariant_of-self c =
 pub returns-in-Some-clause-rows : goal.returns-in-Some-clause-rows
 returns-in-Some-clause-rows c =
     let rows : List Row = c.self.inside.nodes.items in
-    let d : Row = new_row true 0 0 [] 0 in
+    let d : Row = new_row true 0 0 0 [] 0 in
     let place : IsPlaceOf rows c.args.id.0 (Some c.in-Some.place) = is-place rows c.as_slice.result.now c.args.id.0 c.in-Some.place c.find_node.result c.as_slice.ensures.value c.find_node.ensures c.in-Some.is in
     c.set_marks.ensures.items d ∙ sym (changed-default (marked c.args.marks) rows c.args.id.0 c.in-Some.place d c.self.invariant.rising place)
     ∙ ap (λ (v : RowsValue). with_changed c.args.id.0 (marked c.args.marks) v.rows) c.self.view_is

@@ -1,0 +1,21 @@
+use Rattle.std.proofs.Common.{◌∙◌, ap, sym, ◌==◌}
+use Rattle.std.specs.Option.{option_copied}
+use Rattle.volume_spec.specs.Rights.{is_owner}
+use Rattle.volume_spec.specs.VolumeState.{Row}
+use Rattle.volume_tree.proofs.Showing.{said-of, said-of-none}
+use Rattle.volume_tree.proofs.Keeping.{sound-is}
+use Rattle.volume_tree.specs.Shown.{TreeValue}
+use Rattle.volume_tree.proofs.volume.Volume.is_owner.Goals as goal
+
+pub returns-in-Some : goal.returns-in-Some
+unfolding is_owner
+returns-in-Some c =
+    ap (λ (r : Row). r.privileges.owner == c.args.user) c.node.view_is
+    ∙ sym (said-of c.args.self.now.state c.self.inside.forks c.self.inside.rows.rows c.args.id.0 (λ (row : Row). row.privileges.owner == c.args.user) c.in-Some.node.now (ap (λ (v : TreeValue). v.state.rows) c.self.view_is)
+    (sound-is c.self.invariant c.self.view_is) (ap option_copied (sym c.in-Some.is) ∙ c.get.ensures))
+
+pub returns-in-None : goal.returns-in-None
+unfolding is_owner
+returns-in-None c =
+    sym (said-of-none c.args.self.now.state c.self.inside.forks c.self.inside.rows.rows c.args.id.0 (λ (row : Row). row.privileges.owner == c.args.user) (ap (λ (v : TreeValue). v.state.rows) c.self.view_is)
+    (ap option_copied (sym c.in-None.is) ∙ c.get.ensures))
