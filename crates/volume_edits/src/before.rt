@@ -70,10 +70,16 @@ impl WholeVolume {
         self.desktop.icons()
     }
 
-    /// Where a path leads from a directory (AFP Reference, "Pathnames"). Want of memory comes for no other reason.
-    pub fn resolve(&self, alloc: Global, dir: NodeId, path: &Path) -> Result<NodeId, PlanFault>
-        ensures { Answers result (found self.now.state.rows dir.0 path.now) }
+    /// Where a path leads a user from a directory (AFP Reference, "Pathnames"). Want of memory comes for no other reason.
+    pub fn resolve(
+        &self,
+        alloc: Global,
+        user: u32,
+        dir: NodeId,
+        path: &Path,
+    ) -> Result<NodeId, PlanFault>
+        ensures { Answers result (found self.now.state.rows user dir.0 path.now) }
     {
-        self.tree.resolve(alloc, dir, path)
+        self.tree.resolve(alloc, user, dir, path)
     }
 }

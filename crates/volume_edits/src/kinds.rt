@@ -4,7 +4,7 @@ ghost use Rattle.volume_spec.specs.Desktop.{icon_under};
 ghost use Rattle.volume_spec.specs.DesktopLaws.{with_desktop};
 ghost use Rattle.volume_spec.specs.Edit as spec;
 ghost use Rattle.volume_spec.specs.EditLaws.{MayCome, MayExchange, MayGo, MayMove, MayPutAppl, MayPutIcon, MayRename, MayWrite};
-ghost use Rattle.volume_spec.specs.SetFileDirParms.{has_sized_finder};
+ghost use Rattle.volume_spec.specs.SetFileDirParms.{are_fit_settings};
 ghost use Rattle.volume_spec.specs.SoundVolume.{has_file};
 ghost use Rattle.volume_tree.specs.Shown.{fork_at};
 
@@ -59,7 +59,7 @@ pub(crate) fn moves(tree: &mut Volume, desktop: &Desktop, id: NodeId, parent: No
 
 /// Some fields of a node are set.
 pub(crate) fn sets(tree: &mut Volume, desktop: &Desktop, id: NodeId, settings: Settings)
-    requires { has_sized_finder settings ≡ true }
+    requires { are_fit_settings settings ≡ true }
     ensures state { with_desktop tree.new.state desktop.now.comments desktop.now.icons desktop.now.appls ≡ spec.edited (with_desktop tree.old.state desktop.now.comments desktop.now.icons desktop.now.appls) (spec.Sets id.0 settings) }
     ensures spare { tree.old.spare ≤ tree.new.spare }
 {

@@ -25,10 +25,10 @@ use Rattle.volume_tree.proofs.Showing.{test-missing}
 use Rattle.volume_tree.specs.Shown.{fork_at}
 use Rattle.volume_plans.specs.lemma.Copied.{IsCopied}
 
-pub copy-edits : (v : VolumeState) (now dir : ℕ) (path : PathValue) (target : ℕ) (source : Source) (new : PathValue) (name : List ℕ) → found v.rows dir path ≡ Ok target → one_down_or source.file.name new.steps ≡ Ok name
-    → Comes (copy_at target name source.file) ∷ dated now target ∷ [] ≡ call_edits v now (call.CopyFile source dir path new)
+pub copy-edits : (v : VolumeState) (user now dir : ℕ) (path : PathValue) (target : ℕ) (source : Source) (new : PathValue) (name : List ℕ) → found v.rows user dir path ≡ Ok target → one_down_or source.file.name new.steps ≡ Ok name
+    → Comes (copy_at target name source.file) ∷ dated now target ∷ [] ≡ call_edits v user now (call.CopyFile source dir path new)
 unfolding call_edits
-copy-edits v now dir path target source new name at named =
+copy-edits v user now dir path target source new name at named =
     sym (ap (λ r. edits_at r (λ t. edits_at (one_down_or source.file.name new.steps) (λ n. Comes (copy_at t n source.file) ∷ dated now t ∷ []))) at
     ∙ ap (λ r. edits_at r (λ n. Comes (copy_at target n source.file) ∷ dated now target ∷ [])) named)
 

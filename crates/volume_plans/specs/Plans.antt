@@ -7,10 +7,10 @@ use Rattle.volume_spec.specs.VolumeCalls.{VolumeCall, call_edits}
 use Rattle.volume_spec.specs.VolumeState.{VolumeState}
 use Rattle.volume_edits.specs.Planned.{PlanValue, StandOn, edits_of}
 
--- a plan has the edits of a call at a moment; they may be made, and their numbers are in their ranges
-pub record Plans (v : VolumeState) (now : ℕ) (call : VolumeCall) (plan : PlanValue) : Type 0 where
+-- a plan has the edits of a call of a user at a moment; they may be made, and their numbers are in their ranges
+pub record Plans (v : VolumeState) (user now : ℕ) (call : VolumeCall) (plan : PlanValue) : Type 0 where
   pub moment : plan.moment ≡ now
-  pub edits : edits_of plan.edits ≡ call_edits v now call
+  pub edits : edits_of plan.edits ≡ call_edits v user now call
   pub may : MayEditAll v (edits_of plan.edits)
   pub before : StandOn v plan.edits
   pub typed : list_all is_typed_edit (edits_of plan.edits) ≡ true

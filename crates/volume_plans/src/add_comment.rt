@@ -6,13 +6,14 @@ ghost use Rattle.volume_tree.specs.Answered.{Refuses};
 ghost use Rattle.volume_plans.specs.Plans.{Plans};
 
 use crate::asked::has_comment;
-use crate::one::{date_in_range, plan_none, plan_one};
-use afp_base::{Bytes, Moment, NodeId};
+use crate::one::{laws_hold, plan_none, plan_one};
+use crate::tree_asked::lacks_above;
+use afp_base::{Bytes, Code, Moment, NodeId};
 use afp_names::Path;
 use std::alloc::Global;
 use volume_edits::{Edit, Plan, WholeVolume};
 use volume_spec::bytes_in_range;
-use volume_spec::edit_laws::{calls_may_edit, edits_keep_numbers_in_ranges};
+use volume_spec::limits::WRITE_RIGHT;
 use volume_tree::PlanFault;
 
 /// Whether a text changes the comment of a node.
@@ -31,23 +32,24 @@ fn does_comment(whole: &WholeVolume, id: NodeId, text: &Bytes) -> bool
 pub fn plan_add_comment(
     alloc: Global,
     whole: &WholeVolume,
+    user: u32,
     now: Moment,
     dir: NodeId,
     path: &Path,
     text: Bytes,
 ) -> Result<Plan, PlanFault>
-    ensures refused { Refuses result (add_comment_refusal whole.now.state dir.0 path.now) }
-    ensures plan { IfOk result (Plans whole.now.state now (call.AddComment dir.0 path.now text)) }
+    ensures refused { Refuses result (add_comment_refusal whole.now.state user dir.0 path.now) }
+    ensures plan { IfOk result (Plans whole.now.state user now (call.AddComment dir.0 path.now text)) }
 {
-    calls_may_edit();
-    edits_keep_numbers_in_ranges();
-    whole.keeps_sound();
-    date_in_range(now);
+    laws_hold(whole, user, now);
     bytes_in_range(text.as_slice());
-    let id = match whole.resolve(alloc, dir, path) {
+    let id = match whole.resolve(alloc, user, dir, path) {
         Ok(id) => id,
         Err(fault) => return Err(fault),
     };
+    if lacks_above(whole, user, WRITE_RIGHT, id) {
+        return Err(PlanFault::Code(Code::AccessDenied));
+    }
     if !does_comment(whole, id, &text) {
         return Ok(plan_none(alloc, now));
     }

@@ -9,12 +9,11 @@ ghost use Rattle.volume_tree.specs.Answered.{Refuses};
 ghost use Rattle.volume_plans.specs.Plans.{Plans};
 
 use crate::asked::has_no_icon_room;
-use crate::one::{date_in_range, plan_one};
+use crate::one::{laws_hold, plan_one};
 use afp_base::{Bytes, Code, Moment};
 use std::alloc::Global;
 use volume_edits::{Edit, Plan, WholeVolume};
 use volume_spec::bytes_in_range;
-use volume_spec::edit_laws::{calls_may_edit, edits_keep_numbers_in_ranges};
 use volume_tree::PlanFault;
 
 /// What the types say of an icon. The call does nothing.
@@ -45,18 +44,16 @@ fn nine_bytes(key: &[u8; 9])
 pub fn plan_add_icon(
     alloc: Global,
     whole: &WholeVolume,
+    user: u32,
     now: Moment,
     key: [u8; 9],
     tag: u32,
     bits: Bytes,
 ) -> Result<Plan, PlanFault>
     ensures refused { Refuses result (add_icon_refusal whole.now.state (icon_under key tag bits)) }
-    ensures plan { IfOk result (Plans whole.now.state now (call.AddIcon (icon_under key tag bits))) }
+    ensures plan { IfOk result (Plans whole.now.state user now (call.AddIcon (icon_under key tag bits))) }
 {
-    calls_may_edit();
-    edits_keep_numbers_in_ranges();
-    whole.keeps_sound();
-    date_in_range(now);
+    laws_hold(whole, user, now);
     icon_in_range(&key, tag, &bits);
     if has_no_icon_room(whole, &key) {
         return Err(PlanFault::Code(Code::DiskFull));

@@ -10,13 +10,13 @@ ghost use Rattle.volume_plans.specs.Plans.{Plans};
 
 use crate::copy_source::CopiedFile;
 use crate::one::{laws_hold, plan_two};
-use crate::tree_asked::{child, is_directory, room};
+use crate::tree_asked::{child, is_directory, lacks, room};
 use afp_base::{Code, MOST_FORK_BYTES, Moment, NodeId, OutOfMemory};
 use afp_names::{Name, Path};
 use node_rows::Node;
 use std::alloc::Global;
 use volume_edits::{Edit, Plan, WholeVolume};
-use volume_spec::limits::NEVER;
+use volume_spec::limits::{NEVER, WRITE_RIGHT};
 use volume_tree::{NodeWithForks, PlanFault, new_name, steps_are_named};
 
 /// Whether the bytes of all forks would pass the total with so many bytes more.
@@ -39,22 +39,27 @@ fn has_no_bytes(whole: &WholeVolume, file: &CopiedFile<'_>) -> bool
 fn copy_place<'a>(
     alloc: Global,
     target: &WholeVolume,
+    user: u32,
     source: &'a CopiedFile<'_>,
     held: bool,
+    denied: bool,
     dir: NodeId,
     path: &Path,
     new: &'a Path,
 ) -> Result<(NodeId, &'a Name), PlanFault>
-    ensures refused { Refuses result (copy_file_refusal target.now.state (record { file = source.now; held = held }) dir.0 path.now new.now) }
-    ensures found { IfOk result (λ at. found target.now.state.rows dir.0 path.now ≡ Ok at.0.0) }
+    ensures refused { Refuses result (copy_file_refusal target.now.state user (record { file = source.now; held = held; denied = denied }) dir.0 path.now new.now) }
+    ensures found { IfOk result (λ at. found target.now.state.rows user dir.0 path.now ≡ Ok at.0.0) }
     ensures name { IfOk result (λ at. one_down_or source.now.name new.now.steps ≡ Ok at.1.now) }
 {
-    let parent = match target.resolve(alloc, dir, path) {
+    let parent = match target.resolve(alloc, user, dir, path) {
         Ok(parent) => parent,
         Err(fault) => return Err(fault),
     };
     if !is_directory(target, parent) {
         return Err(PlanFault::Code(Code::ObjectTypeErr));
+    }
+    if denied || lacks(target, user, WRITE_RIGHT, parent) {
+        return Err(PlanFault::Code(Code::AccessDenied));
     }
     let name = match new_name(source.name(), new) {
         Some(name) => name,
@@ -118,24 +123,28 @@ fn copy_of(
 }
 
 /// Why a volume refuses to take the copy of a file, or the plan of it: the copy comes. The file may be of this volume or of another; `held` says
-/// whether an open of either of its forks writes or denies reading. Want of memory comes for no other reason.
+/// whether an open of either of its forks writes or denies reading, and `denied` whether the user lacks read in its directory. Want of memory comes for no other reason.
 pub fn plan_copy_file(
     alloc: Global,
     target: &WholeVolume,
+    user: u32,
     now: Moment,
     source: &CopiedFile<'_>,
     held: bool,
+    denied: bool,
     dir: NodeId,
     path: &Path,
     new: &Path,
 ) -> Result<Plan, PlanFault>
-    ensures refused { Refuses result (copy_file_refusal target.now.state (record { file = source.now; held = held }) dir.0 path.now new.now) }
-    ensures plan { IfOk result (Plans target.now.state now (call.CopyFile (record { file = source.now; held = held }) dir.0 path.now new.now)) }
+    ensures refused { Refuses result (copy_file_refusal target.now.state user (record { file = source.now; held = held; denied = denied }) dir.0 path.now new.now) }
+    ensures plan { IfOk result (Plans target.now.state user now (call.CopyFile (record { file = source.now; held = held; denied = denied }) dir.0 path.now new.now)) }
 {
-    laws_hold(target, now);
+    laws_hold(target, user, now);
     source.keeps_formed();
     steps_are_named(new);
-    let (parent, name) = match copy_place(alloc, target, source, held, dir, path, new) {
+    let (parent, name) = match copy_place(
+        alloc, target, user, source, held, denied, dir, path, new,
+    ) {
         Ok(at) => at,
         Err(fault) => return Err(fault),
     };

@@ -112,13 +112,14 @@ fn file_at<'a>(whole: &'a WholeVolume, id: NodeId) -> Option<CopiedFile<'a>>
 pub fn copied_file<'a>(
     alloc: Global,
     whole: &'a WholeVolume,
+    user: u32,
     dir: NodeId,
     path: &Path,
 ) -> Result<CopiedFile<'a>, PlanFault>
-    ensures refused { Refuses result (copied_refusal whole.now.state dir.0 path.now) }
-    ensures file { IfOk result (λ file. open_fork_file whole.now.state dir.0 path.now ≡ Some file) }
+    ensures refused { Refuses result (copied_refusal whole.now.state user dir.0 path.now) }
+    ensures file { IfOk result (λ file. open_fork_file whole.now.state user dir.0 path.now ≡ Some file) }
 {
-    let id = match whole.resolve(alloc, dir, path) {
+    let id = match whole.resolve(alloc, user, dir, path) {
         Ok(id) => id,
         Err(fault) => return Err(fault),
     };

@@ -8,11 +8,12 @@ ghost use Rattle.volume_plans.specs.Plans.{Plans};
 
 use crate::new_node::new_with_forks;
 use crate::one::{laws_hold, plan_two};
-use crate::tree_asked::{child, new_place, room};
+use crate::tree_asked::{child, lacks, new_place, room};
 use afp_base::{Code, Moment, NodeId};
 use afp_names::{Name, Path};
 use std::alloc::Global;
 use volume_edits::{Edit, Plan, WholeVolume};
+use volume_spec::limits::WRITE_RIGHT;
 use volume_tree::{PlanFault, steps_are_named};
 
 /// The id that FPCreateDir draws, the directory in which the new one is and its name, or why it is refused.
@@ -20,17 +21,21 @@ use volume_tree::{PlanFault, steps_are_named};
 fn new_dir<'a>(
     alloc: Global,
     whole: &WholeVolume,
+    user: u32,
     dir: NodeId,
     path: &'a Path,
 ) -> Result<(NodeId, NodeId, &'a Name), PlanFault>
-    ensures refused { Refuses result (create_dir_refusal whole.now.state dir.0 path.now) }
+    ensures refused { Refuses result (create_dir_refusal whole.now.state user dir.0 path.now) }
     ensures id { IfOk result (λ at. at.0.0 ≡ whole.now.state.next_id) }
-    ensures place { IfOk result (λ at. new_place whole.now.state.rows dir.0 path.now ≡ Ok (record { dir = at.1.0; name = at.2.now })) }
+    ensures place { IfOk result (λ at. new_place whole.now.state.rows user dir.0 path.now ≡ Ok (record { dir = at.1.0; name = at.2.now })) }
 {
-    let (parent, name) = match new_place(alloc, whole, dir, path) {
+    let (parent, name) = match new_place(alloc, whole, user, dir, path) {
         Ok(place) => place,
         Err(fault) => return Err(fault),
     };
+    if lacks(whole, user, WRITE_RIGHT, parent) {
+        return Err(PlanFault::Code(Code::AccessDenied));
+    }
     let Ok(key) = name.key(alloc) else {
         return Err(PlanFault::Memory);
     };
@@ -49,20 +54,21 @@ fn new_dir<'a>(
 pub fn plan_create_dir(
     alloc: Global,
     whole: &WholeVolume,
+    user: u32,
     now: Moment,
     dir: NodeId,
     path: &Path,
 ) -> Result<Plan, PlanFault>
-    ensures refused { Refuses result (create_dir_refusal whole.now.state dir.0 path.now) }
-    ensures plan { IfOk result (Plans whole.now.state now (call.CreateDir dir.0 path.now)) }
+    ensures refused { Refuses result (create_dir_refusal whole.now.state user dir.0 path.now) }
+    ensures plan { IfOk result (Plans whole.now.state user now (call.CreateDir dir.0 path.now)) }
 {
-    laws_hold(whole, now);
+    laws_hold(whole, user, now);
     steps_are_named(path);
-    let (id, parent, name) = match new_dir(alloc, whole, dir, path) {
+    let (id, parent, name) = match new_dir(alloc, whole, user, dir, path) {
         Ok(at) => at,
         Err(fault) => return Err(fault),
     };
-    let Ok(new) = new_with_forks(alloc, true, id, parent, name, now) else {
+    let Ok(new) = new_with_forks(alloc, true, user, id, parent, name, now) else {
         return Err(PlanFault::Memory);
     };
     plan_two(alloc, now, Edit::comes(new), Edit::dated(now, parent))

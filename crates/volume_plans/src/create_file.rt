@@ -11,12 +11,13 @@ ghost use Rattle.volume_plans.specs.Plans.{Plans};
 
 use crate::new_node::new_with_forks;
 use crate::one::{laws_hold, plan_three, plan_two};
-use crate::tree_asked::{child, has_attribute, is_directory, new_place, next, room};
+use crate::tree_asked::{child, has_attribute, is_directory, lacks, new_place, next, room};
 use afp_base::{Code, Moment, NodeId};
 use afp_names::{Name, Path};
 use deny_modes::VolumeOpens;
 use std::alloc::Global;
 use volume_edits::{Edit, Plan, WholeVolume};
+use volume_spec::limits::WRITE_RIGHT;
 use volume_tree::{DELETE_INHIBIT, NodeWithForks, PlanFault, is_busy, steps_are_named};
 
 /// The id of a new file, in the place of an old node if there is one, or why it is refused.
@@ -54,20 +55,24 @@ fn file_id(
 fn new_file<'a>(
     alloc: Global,
     whole: &WholeVolume,
+    user: u32,
     opens: &VolumeOpens<'_>,
     hard: bool,
     dir: NodeId,
     path: &'a Path,
 ) -> Result<(NodeId, NodeId, &'a Name, Option<NodeId>), PlanFault>
-    ensures refused { Refuses result (create_file_refusal whole.now.state (opened opens.now) hard dir.0 path.now) }
+    ensures refused { Refuses result (create_file_refusal whole.now.state user (opened opens.now) hard dir.0 path.now) }
     ensures id { IfOk result (λ at. at.0.0 ≡ whole.now.state.next_id) }
-    ensures place { IfOk result (λ at. new_place whole.now.state.rows dir.0 path.now ≡ Ok (record { dir = at.1.0; name = at.2.now })) }
+    ensures place { IfOk result (λ at. new_place whole.now.state.rows user dir.0 path.now ≡ Ok (record { dir = at.1.0; name = at.2.now })) }
     ensures old { IfOk result (λ at. child_by_key whole.now.state.rows at.1.0 (name_key at.2.now) ≡ option_id at.3) }
 {
-    let (parent, name) = match new_place(alloc, whole, dir, path) {
+    let (parent, name) = match new_place(alloc, whole, user, dir, path) {
         Ok(place) => place,
         Err(fault) => return Err(fault),
     };
+    if lacks(whole, user, WRITE_RIGHT, parent) {
+        return Err(PlanFault::Code(Code::AccessDenied));
+    }
     let Ok(key) = name.key(alloc) else {
         return Err(PlanFault::Memory);
     };
@@ -82,22 +87,23 @@ fn new_file<'a>(
 pub fn plan_create_file(
     alloc: Global,
     whole: &WholeVolume,
+    user: u32,
     now: Moment,
     opens: &VolumeOpens<'_>,
     hard: bool,
     dir: NodeId,
     path: &Path,
 ) -> Result<Plan, PlanFault>
-    ensures refused { Refuses result (create_file_refusal whole.now.state (opened opens.now) hard dir.0 path.now) }
-    ensures plan { IfOk result (Plans whole.now.state now (call.CreateFile hard dir.0 path.now)) }
+    ensures refused { Refuses result (create_file_refusal whole.now.state user (opened opens.now) hard dir.0 path.now) }
+    ensures plan { IfOk result (Plans whole.now.state user now (call.CreateFile hard dir.0 path.now)) }
 {
-    laws_hold(whole, now);
+    laws_hold(whole, user, now);
     steps_are_named(path);
-    let (id, parent, name, old) = match new_file(alloc, whole, opens, hard, dir, path) {
+    let (id, parent, name, old) = match new_file(alloc, whole, user, opens, hard, dir, path) {
         Ok(at) => at,
         Err(fault) => return Err(fault),
     };
-    let Ok(new) = new_with_forks(alloc, false, id, parent, name, now) else {
+    let Ok(new) = new_with_forks(alloc, false, user, id, parent, name, now) else {
         return Err(PlanFault::Memory);
     };
     match old {

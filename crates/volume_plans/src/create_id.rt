@@ -6,12 +6,13 @@ ghost use Rattle.volume_tree.specs.Answered.{Refuses};
 ghost use Rattle.volume_plans.specs.Plans.{Plans};
 
 use crate::asked::{is_file, is_filed};
-use crate::one::{date_in_range, plan_one};
+use crate::one::{laws_hold, plan_one};
+use crate::tree_asked::lacks_above;
 use afp_base::{Code, Moment, NodeId};
 use afp_names::Path;
 use std::alloc::Global;
 use volume_edits::{Edit, Plan, WholeVolume};
-use volume_spec::edit_laws::{calls_may_edit, edits_keep_numbers_in_ranges};
+use volume_spec::limits::WRITE_RIGHT;
 use volume_tree::PlanFault;
 
 /// Why FPCreateID is refused, or the plan of it: the file is filed. Want of memory comes for no other reason.
@@ -19,23 +20,24 @@ use volume_tree::PlanFault;
 pub fn plan_create_id(
     alloc: Global,
     whole: &WholeVolume,
+    user: u32,
     now: Moment,
     dir: NodeId,
     path: &Path,
 ) -> Result<Plan, PlanFault>
-    ensures refused { Refuses result (create_id_refusal whole.now.state dir.0 path.now) }
-    ensures plan { IfOk result (Plans whole.now.state now (call.CreateID dir.0 path.now)) }
+    ensures refused { Refuses result (create_id_refusal whole.now.state user dir.0 path.now) }
+    ensures plan { IfOk result (Plans whole.now.state user now (call.CreateID dir.0 path.now)) }
 {
-    calls_may_edit();
-    edits_keep_numbers_in_ranges();
-    whole.keeps_sound();
-    date_in_range(now);
-    let id = match whole.resolve(alloc, dir, path) {
+    laws_hold(whole, user, now);
+    let id = match whole.resolve(alloc, user, dir, path) {
         Ok(id) => id,
         Err(fault) => return Err(fault),
     };
     if !is_file(whole, id) {
         return Err(PlanFault::Code(Code::ObjectTypeErr));
+    }
+    if lacks_above(whole, user, WRITE_RIGHT, id) {
+        return Err(PlanFault::Code(Code::AccessDenied));
     }
     if is_filed(whole, id) {
         return Err(PlanFault::Code(Code::IDExists));

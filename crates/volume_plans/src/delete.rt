@@ -8,13 +8,13 @@ ghost use Rattle.volume_tree.specs.Shown.{opened};
 ghost use Rattle.volume_plans.specs.Plans.{Plans};
 
 use crate::one::{laws_hold, plan_two};
-use crate::tree_asked::{directory, has_attribute, has_children};
+use crate::tree_asked::{directory, has_attribute, has_children, lacks_above};
 use afp_base::{Code, Moment, NodeId};
 use afp_names::Path;
 use deny_modes::VolumeOpens;
 use std::alloc::Global;
 use volume_edits::{Edit, Plan, WholeVolume};
-use volume_spec::limits::ROOT_ID;
+use volume_spec::limits::{ROOT_ID, WRITE_RIGHT};
 use volume_tree::{DELETE_INHIBIT, PlanFault, is_busy};
 
 /// What FPDelete deletes, or why it is refused.
@@ -22,18 +22,22 @@ use volume_tree::{DELETE_INHIBIT, PlanFault, is_busy};
 fn deleted(
     alloc: Global,
     whole: &WholeVolume,
+    user: u32,
     opens: &VolumeOpens<'_>,
     dir: NodeId,
     path: &Path,
 ) -> Result<NodeId, PlanFault>
-    ensures refused { Refuses result (delete_refusal whole.now.state (opened opens.now) dir.0 path.now) }
-    ensures found { IfOk result (λ id. found whole.now.state.rows dir.0 path.now ≡ Ok id.0) }
+    ensures refused { Refuses result (delete_refusal whole.now.state user (opened opens.now) dir.0 path.now) }
+    ensures found { IfOk result (λ id. found whole.now.state.rows user dir.0 path.now ≡ Ok id.0) }
 {
-    let id = match whole.resolve(alloc, dir, path) {
+    let id = match whole.resolve(alloc, user, dir, path) {
         Ok(id) => id,
         Err(fault) => return Err(fault),
     };
     if id.0 == ROOT_ID {
+        return Err(PlanFault::Code(Code::AccessDenied));
+    }
+    if lacks_above(whole, user, WRITE_RIGHT, id) {
         return Err(PlanFault::Code(Code::AccessDenied));
     }
     if has_attribute(whole, DELETE_INHIBIT, id) {
@@ -52,16 +56,17 @@ fn deleted(
 pub fn plan_delete(
     alloc: Global,
     whole: &WholeVolume,
+    user: u32,
     now: Moment,
     opens: &VolumeOpens<'_>,
     dir: NodeId,
     path: &Path,
 ) -> Result<Plan, PlanFault>
-    ensures refused { Refuses result (delete_refusal whole.now.state (opened opens.now) dir.0 path.now) }
-    ensures plan { IfOk result (Plans whole.now.state now (call.Delete dir.0 path.now)) }
+    ensures refused { Refuses result (delete_refusal whole.now.state user (opened opens.now) dir.0 path.now) }
+    ensures plan { IfOk result (Plans whole.now.state user now (call.Delete dir.0 path.now)) }
 {
-    laws_hold(whole, now);
-    let id = match deleted(alloc, whole, opens, dir, path) {
+    laws_hold(whole, user, now);
+    let id = match deleted(alloc, whole, user, opens, dir, path) {
         Ok(id) => id,
         Err(fault) => return Err(fault),
     };

@@ -6,12 +6,12 @@ ghost use Rattle.volume_tree.specs.Answered.{Refuses};
 ghost use Rattle.volume_plans.specs.Plans.{Plans};
 
 use crate::asked::is_filed;
-use crate::one::{date_in_range, plan_one};
+use crate::one::{laws_hold, plan_one};
+use crate::tree_asked::lacks_above;
 use afp_base::{Code, Moment, NodeId};
 use std::alloc::Global;
 use volume_edits::{Edit, Plan, WholeVolume};
-use volume_spec::edit_laws::{calls_may_edit, edits_keep_numbers_in_ranges};
-use volume_spec::limits::FIRST_ID;
+use volume_spec::limits::{FIRST_ID, WRITE_RIGHT};
 use volume_tree::PlanFault;
 
 /// Why FPDeleteID is refused, or the plan of it: the file is not filed any more. Want of memory comes for no other reason.
@@ -19,21 +19,22 @@ use volume_tree::PlanFault;
 pub fn plan_delete_id(
     alloc: Global,
     whole: &WholeVolume,
+    user: u32,
     now: Moment,
     id: NodeId,
 ) -> Result<Plan, PlanFault>
-    ensures refused { Refuses result (delete_id_refusal whole.now.state id.0) }
-    ensures plan { IfOk result (Plans whole.now.state now (call.DeleteID id.0)) }
+    ensures refused { Refuses result (delete_id_refusal whole.now.state user id.0) }
+    ensures plan { IfOk result (Plans whole.now.state user now (call.DeleteID id.0)) }
 {
-    calls_may_edit();
-    edits_keep_numbers_in_ranges();
-    whole.keeps_sound();
-    date_in_range(now);
+    laws_hold(whole, user, now);
     if id.0 < FIRST_ID {
         return Err(PlanFault::Code(Code::BadIDErr));
     }
     if !is_filed(whole, id) {
         return Err(PlanFault::Code(Code::IDNotFound));
+    }
+    if lacks_above(whole, user, WRITE_RIGHT, id) {
+        return Err(PlanFault::Code(Code::AccessDenied));
     }
     plan_one(alloc, now, Edit::files(id, false))
 }

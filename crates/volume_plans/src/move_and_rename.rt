@@ -8,12 +8,14 @@ ghost use Rattle.volume_tree.specs.Answered.{Refuses};
 ghost use Rattle.volume_plans.specs.Plans.{Plans};
 
 use crate::one::{laws_hold, plan_three};
-use crate::tree_asked::{directory, has_attribute, is_below, is_directory, is_taken, name_at};
+use crate::tree_asked::{
+    directory, has_attribute, is_below, is_directory, is_taken, lacks, lacks_above, name_at,
+};
 use afp_base::{Code, Moment, NodeId};
 use afp_names::{Name, Path};
 use std::alloc::Global;
 use volume_edits::{Edit, Plan, WholeVolume};
-use volume_spec::limits::ROOT_ID;
+use volume_spec::limits::{ROOT_ID, WRITE_RIGHT};
 use volume_tree::{NewName, PlanFault, RENAME_INHIBIT, new_name, steps_are_named};
 
 /// What FPMoveAndRename moves, the directory to which it goes and its name there, or why it is refused.
@@ -21,32 +23,39 @@ use volume_tree::{NewName, PlanFault, RENAME_INHIBIT, new_name, steps_are_named}
 fn moved<'a>(
     alloc: Global,
     whole: &'a WholeVolume,
+    user: u32,
     dir: NodeId,
     path: &Path,
     to_dir: NodeId,
     to_path: &Path,
     new: &'a Path,
 ) -> Result<(NodeId, NodeId, &'a Name), PlanFault>
-    ensures refused { Refuses result (move_refusal whole.now.state dir.0 path.now to_dir.0 to_path.now new.now) }
-    ensures found { IfOk result (λ at. found whole.now.state.rows dir.0 path.now ≡ Ok at.0.0) }
-    ensures target { IfOk result (λ at. found whole.now.state.rows to_dir.0 to_path.now ≡ Ok at.1.0) }
+    ensures refused { Refuses result (move_refusal whole.now.state user dir.0 path.now to_dir.0 to_path.now new.now) }
+    ensures found { IfOk result (λ at. found whole.now.state.rows user dir.0 path.now ≡ Ok at.0.0) }
+    ensures target { IfOk result (λ at. found whole.now.state.rows user to_dir.0 to_path.now ≡ Ok at.1.0) }
     ensures name { IfOk result (λ at. one_down_or (name_of whole.now.state.rows at.0.0) new.now.steps ≡ Ok at.2.now) }
 {
-    let id = match whole.resolve(alloc, dir, path) {
+    let id = match whole.resolve(alloc, user, dir, path) {
         Ok(id) => id,
         Err(fault) => return Err(fault),
     };
     if id.0 == ROOT_ID {
         return Err(PlanFault::Code(Code::CantMove));
     }
-    let target = match whole.resolve(alloc, to_dir, to_path) {
+    let target = match whole.resolve(alloc, user, to_dir, to_path) {
         Ok(target) => target,
         Err(fault) => return Err(fault),
     };
     if !is_directory(whole, target) {
         return Err(PlanFault::Code(Code::ObjectTypeErr));
     }
-    let name = match new_name(name_at(whole, dir, path, id), new) {
+    if lacks_above(whole, user, WRITE_RIGHT, id) {
+        return Err(PlanFault::Code(Code::AccessDenied));
+    }
+    if lacks(whole, user, WRITE_RIGHT, target) {
+        return Err(PlanFault::Code(Code::AccessDenied));
+    }
+    let name = match new_name(name_at(whole, user, dir, path, id), new) {
         Some(name) => name,
         None => return Err(PlanFault::Code(Code::ParamErr)),
     };
@@ -69,6 +78,7 @@ fn moved<'a>(
 pub fn plan_move_and_rename(
     alloc: Global,
     whole: &WholeVolume,
+    user: u32,
     now: Moment,
     dir: NodeId,
     path: &Path,
@@ -76,12 +86,12 @@ pub fn plan_move_and_rename(
     to_path: &Path,
     new: &Path,
 ) -> Result<Plan, PlanFault>
-    ensures refused { Refuses result (move_refusal whole.now.state dir.0 path.now to_dir.0 to_path.now new.now) }
-    ensures plan { IfOk result (Plans whole.now.state now (call.MoveAndRename dir.0 path.now to_dir.0 to_path.now new.now)) }
+    ensures refused { Refuses result (move_refusal whole.now.state user dir.0 path.now to_dir.0 to_path.now new.now) }
+    ensures plan { IfOk result (Plans whole.now.state user now (call.MoveAndRename dir.0 path.now to_dir.0 to_path.now new.now)) }
 {
-    laws_hold(whole, now);
+    laws_hold(whole, user, now);
     steps_are_named(new);
-    let (id, target, name) = match moved(alloc, whole, dir, path, to_dir, to_path, new) {
+    let (id, target, name) = match moved(alloc, whole, user, dir, path, to_dir, to_path, new) {
         Ok(at) => at,
         Err(fault) => return Err(fault),
     };

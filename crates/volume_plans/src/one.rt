@@ -1,6 +1,6 @@
 //! Plans of a few edits.
 ghost use Rattle.std.specs.Prelude.{◌≡◌, ◌≤◌, ◌∷◌, [], pos, true};
-ghost use Rattle.volume_spec.specs.TypedVolume.{is_date};
+ghost use Rattle.volume_spec.specs.TypedVolume.{is_date, is_long};
 ghost use Rattle.volume_edits.specs.Planned.{all_take, writes_alone};
 ghost use Rattle.volume_plans.specs.lemma.One.{HasEdits, Holds, IsPlanOf};
 
@@ -11,20 +11,26 @@ use volume_spec::edit_laws::{calls_may_edit, edits_keep_numbers_in_ranges};
 use volume_tree::PlanFault;
 
 /// A moment is a date. The call does nothing.
-pub(crate) fn date_in_range(now: Moment)
+fn date_in_range(now: Moment)
     ensures { is_date (pos now) ≡ true }
 {
     let _ = now.seconds();
 }
 
-/// What plans of calls go by. The call does nothing.
-pub(crate) fn laws_hold(whole: &WholeVolume, now: Moment)
-    ensures { Holds whole.now.state now }
+/// A user is a number of four bytes. The call does nothing.
+fn user_in_range(user: u32)
+    ensures { is_long user ≡ true }
+{}
+
+/// What plans of a user's calls go by. The call does nothing.
+pub(crate) fn laws_hold(whole: &WholeVolume, user: u32, now: Moment)
+    ensures { Holds whole.now.state user now }
 {
     calls_may_edit();
     edits_keep_numbers_in_ranges();
     whole.keeps_sound();
     date_in_range(now);
+    user_in_range(user);
 }
 
 /// The plan of one edit. The one error is want of memory.

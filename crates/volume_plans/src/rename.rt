@@ -7,12 +7,12 @@ ghost use Rattle.volume_tree.specs.Answered.{Refuses};
 ghost use Rattle.volume_plans.specs.Plans.{Plans};
 
 use crate::one::{laws_hold, plan_two};
-use crate::tree_asked::{directory, has_attribute, is_taken};
+use crate::tree_asked::{directory, has_attribute, is_taken, lacks_above};
 use afp_base::{Code, Moment, NodeId};
 use afp_names::{Name, Path};
 use std::alloc::Global;
 use volume_edits::{Edit, Plan, WholeVolume};
-use volume_spec::limits::ROOT_ID;
+use volume_spec::limits::{ROOT_ID, WRITE_RIGHT};
 use volume_tree::{NewName, PlanFault, RENAME_INHIBIT, only_name, steps_are_named};
 
 /// What FPRename renames and the new name, or why it is refused.
@@ -20,20 +20,24 @@ use volume_tree::{NewName, PlanFault, RENAME_INHIBIT, only_name, steps_are_named
 fn renamed<'a>(
     alloc: Global,
     whole: &WholeVolume,
+    user: u32,
     dir: NodeId,
     path: &Path,
     new: &'a Path,
 ) -> Result<(NodeId, &'a Name), PlanFault>
-    ensures refused { Refuses result (rename_refusal whole.now.state dir.0 path.now new.now) }
-    ensures found { IfOk result (λ at. found whole.now.state.rows dir.0 path.now ≡ Ok at.0.0) }
+    ensures refused { Refuses result (rename_refusal whole.now.state user dir.0 path.now new.now) }
+    ensures found { IfOk result (λ at. found whole.now.state.rows user dir.0 path.now ≡ Ok at.0.0) }
     ensures name { IfOk result (λ at. one_down new.now.steps ≡ Ok at.1.now) }
 {
-    let id = match whole.resolve(alloc, dir, path) {
+    let id = match whole.resolve(alloc, user, dir, path) {
         Ok(id) => id,
         Err(fault) => return Err(fault),
     };
     if id.0 == ROOT_ID {
         return Err(PlanFault::Code(Code::CantRename));
+    }
+    if lacks_above(whole, user, WRITE_RIGHT, id) {
+        return Err(PlanFault::Code(Code::AccessDenied));
     }
     let name = match only_name(new) {
         Some(name) => name,
@@ -55,17 +59,18 @@ fn renamed<'a>(
 pub fn plan_rename(
     alloc: Global,
     whole: &WholeVolume,
+    user: u32,
     now: Moment,
     dir: NodeId,
     path: &Path,
     new: &Path,
 ) -> Result<Plan, PlanFault>
-    ensures refused { Refuses result (rename_refusal whole.now.state dir.0 path.now new.now) }
-    ensures plan { IfOk result (Plans whole.now.state now (call.Rename dir.0 path.now new.now)) }
+    ensures refused { Refuses result (rename_refusal whole.now.state user dir.0 path.now new.now) }
+    ensures plan { IfOk result (Plans whole.now.state user now (call.Rename dir.0 path.now new.now)) }
 {
-    laws_hold(whole, now);
+    laws_hold(whole, user, now);
     steps_are_named(new);
-    let (id, name) = match renamed(alloc, whole, dir, path, new) {
+    let (id, name) = match renamed(alloc, whole, user, dir, path, new) {
         Ok(at) => at,
         Err(fault) => return Err(fault),
     };

@@ -45,14 +45,15 @@ fn backup_date(bits: u16, tail: &[u8]) -> Result<i32, PlanFault>
 pub fn plan_set_vol_parms(
     alloc: Global,
     whole: &WholeVolume,
+    user: u32,
     now: Moment,
     bits: u16,
     tail: &[u8],
 ) -> Result<Plan, PlanFault>
     ensures refused { Refuses result (set_vol_parms_refusal bits tail.now) }
-    ensures plan { IfOk result (Plans whole.now.state now (call.SetVolParms bits tail.now)) }
+    ensures plan { IfOk result (Plans whole.now.state user now (call.SetVolParms bits tail.now)) }
 {
-    laws_hold(whole, now);
+    laws_hold(whole, user, now);
     bytes_in_range(tail);
     let date = match backup_date(bits, tail) {
         Ok(date) => date,

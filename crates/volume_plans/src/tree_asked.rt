@@ -2,7 +2,8 @@
 ghost use Rattle.std.specs.Prelude.{◌≡◌, true, false, length, Ok, IfOk, MatchOption};
 ghost use Rattle.afp_names.specs.Name.{name_key};
 ghost use Rattle.volume_spec.specs.Edits.{has_children, is_below, is_taken};
-ghost use Rattle.volume_spec.specs.Shared.{directory_of, has_attribute, has_no_ids, has_no_room, name_of};
+ghost use Rattle.volume_spec.specs.Rights.{is_owner, lacks};
+ghost use Rattle.volume_spec.specs.Shared.{directory_of, has_attribute, has_no_ids, has_no_room, lacks_above, name_of};
 ghost use Rattle.volume_spec.specs.Walk.{child_by_key, found, has_directory, new_place};
 ghost use Rattle.volume_tree.specs.Answered.{FailsAs, IsFoundNode};
 
@@ -85,22 +86,50 @@ pub(crate) fn room(whole: &WholeVolume) -> Option<NodeId>
 }
 
 /// The name of a node to which a path leads.
-pub(crate) fn name_at<'a>(whole: &'a WholeVolume, dir: NodeId, path: &Path, id: NodeId) -> &'a Name
-    requires { found whole.now.state.rows dir.0 path.now ≡ Ok id.0 }
+pub(crate) fn name_at<'a>(
+    whole: &'a WholeVolume,
+    user: u32,
+    dir: NodeId,
+    path: &Path,
+    id: NodeId,
+) -> &'a Name
+    requires { found whole.now.state.rows user dir.0 path.now ≡ Ok id.0 }
     ensures { result.now ≡ name_of whole.now.state.rows id.0 }
 {
-    whole.tree.name_at(dir, path, id)
+    whole.tree.name_at(user, dir, path, id)
 }
 
 /// The new place that a path names: a directory, and the name in it.
 pub(crate) fn new_place<'a>(
     alloc: Global,
     whole: &WholeVolume,
+    user: u32,
     dir: NodeId,
     path: &'a Path,
 ) -> Result<(NodeId, &'a Name), PlanFault>
-    ensures place { IfOk result (λ place. new_place whole.now.state.rows dir.0 path.now ≡ Ok (record { dir = place.0.0; name = place.1.now })) }
-    ensures fault { FailsAs result (new_place whole.now.state.rows dir.0 path.now) }
+    ensures place { IfOk result (λ place. new_place whole.now.state.rows user dir.0 path.now ≡ Ok (record { dir = place.0.0; name = place.1.now })) }
+    ensures fault { FailsAs result (new_place whole.now.state.rows user dir.0 path.now) }
 {
-    whole.tree.new_place(alloc, dir, path)
+    whole.tree.new_place(alloc, user, dir, path)
+}
+
+/// Whether a user lacks a right in the directory of an id.
+pub(crate) fn lacks(whole: &WholeVolume, user: u32, right: u8, id: NodeId) -> bool
+    ensures { result ≡ lacks whole.now.state.rows user right id.0 }
+{
+    whole.tree.lacks(user, right, id)
+}
+
+/// Whether a user lacks a right in the directory of a node; the root's is the root here.
+pub(crate) fn lacks_above(whole: &WholeVolume, user: u32, right: u8, id: NodeId) -> bool
+    ensures { result ≡ lacks_above whole.now.state.rows user right id.0 }
+{
+    whole.tree.lacks_above(user, right, id)
+}
+
+/// Whether a user owns the directory of an id.
+pub(crate) fn is_owner(whole: &WholeVolume, user: u32, id: NodeId) -> bool
+    ensures { result ≡ is_owner whole.now.state.rows user id.0 }
+{
+    whole.tree.is_owner(user, id)
 }

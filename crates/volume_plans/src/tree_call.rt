@@ -36,29 +36,30 @@ fn is_hard(flag: u8) -> bool
 fn plan_by_call(
     alloc: Global,
     whole: &WholeVolume,
+    user: u32,
     now: Moment,
     opens: &VolumeOpens<'_>,
     call: &Call,
 ) -> Result<Plan, PlanFault>
     requires { IsSome (tree_call call.now) }
-    ensures refused { IfSome (tree_call call.now) (λ call. Refuses result (tree_refusal whole.now.state (opened opens.now) call)) }
-    ensures plan { IfOk result (λ plan. IfSome (tree_call call.now) (λ call. Plans whole.now.state now (volume_call call) plan)) }
+    ensures refused { IfSome (tree_call call.now) (λ call. Refuses result (tree_refusal whole.now.state user (opened opens.now) call)) }
+    ensures plan { IfOk result (λ plan. IfSome (tree_call call.now) (λ call. Plans whole.now.state user now (volume_call call) plan)) }
 {
     match call {
-        Call::CreateDir { dir, path, .. } => plan_create_dir(alloc, whole, now, *dir, path),
+        Call::CreateDir { dir, path, .. } => plan_create_dir(alloc, whole, user, now, *dir, path),
         Call::CreateFile {
             flag,
             dir,
             path,
             ..
-        } => plan_create_file(alloc, whole, now, opens, is_hard(*flag), *dir, path),
-        Call::Delete { dir, path, .. } => plan_delete(alloc, whole, now, opens, *dir, path),
+        } => plan_create_file(alloc, whole, user, now, opens, is_hard(*flag), *dir, path),
+        Call::Delete { dir, path, .. } => plan_delete(alloc, whole, user, now, opens, *dir, path),
         Call::Rename {
             dir,
             path,
             new_path,
             ..
-        } => plan_rename(alloc, whole, now, *dir, path, new_path),
+        } => plan_rename(alloc, whole, user, now, *dir, path, new_path),
         Call::MoveAndRename {
             dir,
             target_dir,
@@ -69,6 +70,7 @@ fn plan_by_call(
         } => plan_move_and_rename(
             alloc,
             whole,
+            user,
             now,
             *dir,
             path,
@@ -82,24 +84,25 @@ fn plan_by_call(
             path,
             tail,
             ..
-        } => plan_set_file_parms(alloc, whole, now, *dir, *bits, path, tail.as_slice()),
+        } => plan_set_file_parms(alloc, whole, user, now, *dir, *bits, path, tail.as_slice()),
         Call::SetDirParms {
             dir,
             bits,
             path,
             tail,
             ..
-        } => plan_set_dir_parms(alloc, whole, now, *dir, *bits, path, tail.as_slice()),
+        } => plan_set_dir_parms(alloc, whole, user, now, *dir, *bits, path, tail.as_slice()),
         Call::SetFileDirParms {
             dir,
             bits,
             path,
             tail,
             ..
-        } => plan_set_file_dir_parms(alloc, whole, now, *dir, *bits, path, tail.as_slice()),
+        } => plan_set_file_dir_parms(alloc, whole, user, now, *dir, *bits, path, tail.as_slice()),
         Call::SetVolParms { bits, tail, .. } => plan_set_vol_parms(
             alloc,
             whole,
+            user,
             now,
             *bits,
             tail.as_slice(),
@@ -113,16 +116,17 @@ fn plan_by_call(
 pub fn plan_tree_call(
     alloc: Global,
     whole: &WholeVolume,
+    user: u32,
     now: Moment,
     opens: &VolumeOpens<'_>,
     call: &Call,
 ) -> Result<Plan, PlanFault>
     requires { IsSome (tree_call call.now) }
-    ensures refused { IfSome (tree_call call.now) (λ call. Refuses result (tree_refusal whole.now.state (opened opens.now) call)) }
-    ensures plan { IfOk result (λ plan. IfSome (tree_call call.now) (λ call. Plans whole.now.state now (volume_call call) plan)) }
-    ensures effect { IfOk result (λ plan. IfSome (tree_call call.now) (λ call. after_call whole.now.state now (edits_of plan.edits) ≡ tree_effect whole.now.state now call)) }
+    ensures refused { IfSome (tree_call call.now) (λ call. Refuses result (tree_refusal whole.now.state user (opened opens.now) call)) }
+    ensures plan { IfOk result (λ plan. IfSome (tree_call call.now) (λ call. Plans whole.now.state user now (volume_call call) plan)) }
+    ensures effect { IfOk result (λ plan. IfSome (tree_call call.now) (λ call. after_call whole.now.state now (edits_of plan.edits) ≡ tree_effect whole.now.state user now call)) }
     ensures some { IfOk result (λ plan. (length plan.edits == 0) ≡ false) }
 {
     effects_are_edits();
-    plan_by_call(alloc, whole, now, opens, call)
+    plan_by_call(alloc, whole, user, now, opens, call)
 }

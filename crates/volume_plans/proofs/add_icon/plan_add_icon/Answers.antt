@@ -12,14 +12,10 @@ returns-clause-refused c = passes-call c.args.now (c.puts_icon.result ∷ []) c.
 pub returns-clause-plan : goal.returns-clause-plan
 returns-clause-plan c =
     let none = add-icon-passes c.args.whole.now.state (icon_under c.args.key c.args.tag c.args.bits) (ap (λ key. has_no_icon_room key c.args.whole.now.state.icons) c.icon_in_range.ensures.key ∙ sym c.has_no_icon_room.ensures ∙ c.if-has_no_icon_room.false) in
-    let p : Passes c.args.whole.now.state c.args.now (call.AddIcon (icon_under c.args.key c.args.tag c.args.bits)) = record {
-      may = c.calls_may_edit.ensures;
-      bring = c.edits_keep_numbers_in_ranges.ensures.calls;
-      date = c.date_in_range.ensures;
-      sound = c.keeps_sound.ensures.sound;
-      typed = c.keeps_sound.ensures.typed;
+    let p : Passes c.args.whole.now.state c.args.user c.args.now (call.AddIcon (icon_under c.args.key c.args.tag c.args.bits)) = record {
+      holds = c.laws_hold.ensures;
       formed_call = c.icon_in_range.ensures.formed;
       typed_call = c.icon_in_range.ensures.typed;
       passes = none;
     } in
-    plans-one c.args.whole.now.state c.args.now (call.AddIcon (icon_under c.args.key c.args.tag c.args.bits)) c.puts_icon.result (edit.PutsIcon (icon_under c.args.key c.args.tag c.args.bits)) c.plan_one.result p c.puts_icon.ensures tt (add-icon-edits c.args.whole.now.state c.args.now (icon_under c.args.key c.args.tag c.args.bits)) c.plan_one.ensures
+    plans-one c.args.whole.now.state c.args.user c.args.now (call.AddIcon (icon_under c.args.key c.args.tag c.args.bits)) c.puts_icon.result (edit.PutsIcon (icon_under c.args.key c.args.tag c.args.bits)) c.plan_one.result p c.puts_icon.ensures tt (add-icon-edits c.args.whole.now.state c.args.user c.args.now (icon_under c.args.key c.args.tag c.args.bits)) c.plan_one.ensures

@@ -13,10 +13,10 @@ use Rattle.volume_plans.proofs.copy_file.plan_copy_file.Goals as goal
 
 pub returns-clause-plan : goal.returns-clause-plan
 returns-clause-plan c =
-    let source : Source = record { file = c.args.source.now; held = c.args.held } in
+    let source : Source = record { file = c.args.source.now; held = c.args.held; denied = c.args.denied } in
     let comes = c.comes.ensures ∙ ap (λ (row : Row). plain (edit.Comes row)) c.in-Ok-copy_of.ensures in
-    plans-plain c.args.target.now.state [] c.args.now (call.CopyFile source c.args.dir.0 c.args.path.now c.args.new.now) (c.comes.result ∷ c.dated.result ∷ [])
+    plans-plain c.args.target.now.state c.args.user [] c.args.now (call.CopyFile source c.args.dir.0 c.args.path.now c.args.new.now) (c.comes.result ∷ c.dated.result ∷ [])
     (edit.Comes (copy_at c.in-Ok.at.0.0 c.in-Ok.at.1.now c.args.source.now) ∷ edit.dated c.args.now c.in-Ok.at.0.0 ∷ []) c.plan_two.result
     c.laws_hold.ensures (and_from (is_formed c.args.source.now) (is_named_path c.args.new.now) c.keeps_formed.ensures.formed c.steps_are_named.ensures) c.keeps_formed.ensures.typed c.in-Ok.ensures.refused
     (λ i. comes i ∷ c.dated.ensures i ∷ []) (tt, (tt, tt))
-    (copy-edits c.args.target.now.state c.args.now c.args.dir.0 c.args.path.now c.in-Ok.at.0.0 source c.args.new.now c.in-Ok.at.1.now c.in-Ok.ensures.found c.in-Ok.ensures.name) c.plan_two.ensures
+    (copy-edits c.args.target.now.state c.args.user c.args.now c.args.dir.0 c.args.path.now c.in-Ok.at.0.0 source c.args.new.now c.in-Ok.at.1.now c.in-Ok.ensures.found c.in-Ok.ensures.name) c.plan_two.ensures

@@ -10,6 +10,6 @@ use Rattle.volume_plans.proofs.create_dir.plan_create_dir.Goals as goal
 pub returns-clause-plan : goal.returns-clause-plan
 returns-clause-plan c =
     let comes = c.comes.ensures ∙ ap (λ (row : Row). plain (edit.Comes row)) c.in-Ok-new_with_forks.ensures in
-    plans-plain c.args.whole.now.state [] c.args.now (call.CreateDir c.args.dir.0 c.args.path.now) (c.comes.result ∷ c.dated.result ∷ []) (edit.Comes (new_row true c.in-Ok.at.0.0 c.in-Ok.at.1.0 c.in-Ok.at.2.now c.args.now) ∷ edit.dated c.args.now c.in-Ok.at.1.0 ∷ []) c.plan_two.result
+    plans-plain c.args.whole.now.state c.args.user [] c.args.now (call.CreateDir c.args.dir.0 c.args.path.now) (c.comes.result ∷ c.dated.result ∷ []) (edit.Comes (new_row true c.args.user c.in-Ok.at.0.0 c.in-Ok.at.1.0 c.in-Ok.at.2.now c.args.now) ∷ edit.dated c.args.now c.in-Ok.at.1.0 ∷ []) c.plan_two.result
     c.laws_hold.ensures c.steps_are_named.ensures refl c.in-Ok.ensures.refused (λ i. comes i ∷ c.dated.ensures i ∷ []) (tt, (tt, tt))
-    (create-dir-edits c.args.whole.now.state c.args.now c.args.dir.0 c.args.path.now c.in-Ok.at.0.0 c.in-Ok.at.1.0 c.in-Ok.at.2.now c.in-Ok.ensures.place c.in-Ok.ensures.id) c.plan_two.ensures
+    (create-dir-edits c.args.whole.now.state c.args.user c.args.now c.args.dir.0 c.args.path.now c.in-Ok.at.0.0 c.in-Ok.at.1.0 c.in-Ok.at.2.now c.in-Ok.ensures.place c.in-Ok.ensures.id) c.plan_two.ensures

@@ -6,19 +6,15 @@ use Rattle.volume_spec.specs.Edit as edit
 use Rattle.volume_plans.proofs.create_id.plan_create_id.Goals as goal
 
 pub returns-clause-refused : goal.returns-clause-refused
-returns-clause-refused c = passes-call c.args.now (c.files.result ∷ []) c.plan_one.result _ (create-id-passes c.args.whole.now.state c.args.now c.args.dir.0 c.args.path.now c.in-Ok.id.0 c.in-Ok.ensures (sym c.is_file.ensures ∙ c.if-not-is_file.false) (sym c.is_filed.ensures ∙ c.if-is_filed.false)) c.plan_one.ensures
+returns-clause-refused c = passes-call c.args.now (c.files.result ∷ []) c.plan_one.result _ (create-id-passes c.args.whole.now.state c.args.user c.args.now c.args.dir.0 c.args.path.now c.in-Ok.id.0 c.in-Ok.ensures (sym c.is_file.ensures ∙ c.if-not-is_file.false) (sym c.lacks_above.ensures ∙ c.if-lacks_above.false) (sym c.is_filed.ensures ∙ c.if-is_filed.false)) c.plan_one.ensures
 
 pub returns-clause-plan : goal.returns-clause-plan
 returns-clause-plan c =
-    let none = create-id-passes c.args.whole.now.state c.args.now c.args.dir.0 c.args.path.now c.in-Ok.id.0 c.in-Ok.ensures (sym c.is_file.ensures ∙ c.if-not-is_file.false) (sym c.is_filed.ensures ∙ c.if-is_filed.false) in
-    let p : Passes c.args.whole.now.state c.args.now (call.CreateID c.args.dir.0 c.args.path.now) = record {
-      may = c.calls_may_edit.ensures;
-      bring = c.edits_keep_numbers_in_ranges.ensures.calls;
-      date = c.date_in_range.ensures;
-      sound = c.keeps_sound.ensures.sound;
-      typed = c.keeps_sound.ensures.typed;
+    let none = create-id-passes c.args.whole.now.state c.args.user c.args.now c.args.dir.0 c.args.path.now c.in-Ok.id.0 c.in-Ok.ensures (sym c.is_file.ensures ∙ c.if-not-is_file.false) (sym c.lacks_above.ensures ∙ c.if-lacks_above.false) (sym c.is_filed.ensures ∙ c.if-is_filed.false) in
+    let p : Passes c.args.whole.now.state c.args.user c.args.now (call.CreateID c.args.dir.0 c.args.path.now) = record {
+      holds = c.laws_hold.ensures;
       formed_call = refl;
       typed_call = refl;
       passes = none;
     } in
-    plans-one c.args.whole.now.state c.args.now (call.CreateID c.args.dir.0 c.args.path.now) c.files.result (edit.Files c.in-Ok.id.0 true) c.plan_one.result p c.files.ensures tt (create-id-edits c.args.whole.now.state c.args.now c.args.dir.0 c.args.path.now c.in-Ok.id.0 c.in-Ok.ensures) c.plan_one.ensures
+    plans-one c.args.whole.now.state c.args.user c.args.now (call.CreateID c.args.dir.0 c.args.path.now) c.files.result (edit.Files c.in-Ok.id.0 true) c.plan_one.result p c.files.ensures tt (create-id-edits c.args.whole.now.state c.args.user c.args.now c.args.dir.0 c.args.path.now c.in-Ok.id.0 c.in-Ok.ensures) c.plan_one.ensures

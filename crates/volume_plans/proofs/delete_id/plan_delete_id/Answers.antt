@@ -6,19 +6,15 @@ use Rattle.volume_spec.specs.Edit as edit
 use Rattle.volume_plans.proofs.delete_id.plan_delete_id.Goals as goal
 
 pub returns-clause-refused : goal.returns-clause-refused
-returns-clause-refused c = passes-call c.args.now (c.files.result ∷ []) c.plan_one.result _ (delete-id-passes c.args.whole.now.state c.args.id.0 (search (rules, c.if-id-lt-FIRST_ID.false)) (sym c.is_filed.ensures ∙ c.if-not-is_filed.false)) c.plan_one.ensures
+returns-clause-refused c = passes-call c.args.now (c.files.result ∷ []) c.plan_one.result _ (delete-id-passes c.args.whole.now.state c.args.user c.args.id.0 (search (rules, c.if-id-lt-FIRST_ID.false)) (sym c.is_filed.ensures ∙ c.if-not-is_filed.false) (sym c.lacks_above.ensures ∙ c.if-lacks_above.false)) c.plan_one.ensures
 
 pub returns-clause-plan : goal.returns-clause-plan
 returns-clause-plan c =
-    let none = delete-id-passes c.args.whole.now.state c.args.id.0 (search (rules, c.if-id-lt-FIRST_ID.false)) (sym c.is_filed.ensures ∙ c.if-not-is_filed.false) in
-    let p : Passes c.args.whole.now.state c.args.now (call.DeleteID c.args.id.0) = record {
-      may = c.calls_may_edit.ensures;
-      bring = c.edits_keep_numbers_in_ranges.ensures.calls;
-      date = c.date_in_range.ensures;
-      sound = c.keeps_sound.ensures.sound;
-      typed = c.keeps_sound.ensures.typed;
+    let none = delete-id-passes c.args.whole.now.state c.args.user c.args.id.0 (search (rules, c.if-id-lt-FIRST_ID.false)) (sym c.is_filed.ensures ∙ c.if-not-is_filed.false) (sym c.lacks_above.ensures ∙ c.if-lacks_above.false) in
+    let p : Passes c.args.whole.now.state c.args.user c.args.now (call.DeleteID c.args.id.0) = record {
+      holds = c.laws_hold.ensures;
       formed_call = refl;
       typed_call = refl;
       passes = none;
     } in
-    plans-one c.args.whole.now.state c.args.now (call.DeleteID c.args.id.0) c.files.result (edit.Files c.args.id.0 false) c.plan_one.result p c.files.ensures tt (delete-id-edits c.args.whole.now.state c.args.now c.args.id.0) c.plan_one.ensures
+    plans-one c.args.whole.now.state c.args.user c.args.now (call.DeleteID c.args.id.0) c.files.result (edit.Files c.args.id.0 false) c.plan_one.result p c.files.ensures tt (delete-id-edits c.args.whole.now.state c.args.user c.args.now c.args.id.0) c.plan_one.ensures

@@ -7,19 +7,15 @@ use Rattle.volume_spec.specs.Edit as edit
 use Rattle.volume_plans.proofs.remove_comment.plan_remove_comment.Goals as goal
 
 pub returns-clause-refused : goal.returns-clause-refused
-returns-clause-refused c = passes-call c.args.now (c.comments.result ∷ []) c.plan_one.result _ (remove-comment-passes c.args.whole.now.state c.args.now c.args.dir.0 c.args.path.now c.in-Ok.id.0 c.in-Ok.ensures (sym c.has_no_comment.ensures ∙ c.if-has_no_comment.false)) c.plan_one.ensures
+returns-clause-refused c = passes-call c.args.now (c.comments.result ∷ []) c.plan_one.result _ (remove-comment-passes c.args.whole.now.state c.args.user c.args.now c.args.dir.0 c.args.path.now c.in-Ok.id.0 c.in-Ok.ensures (sym c.lacks_above.ensures ∙ c.if-lacks_above.false) (sym c.has_no_comment.ensures ∙ c.if-has_no_comment.false)) c.plan_one.ensures
 
 pub returns-clause-plan : goal.returns-clause-plan
 returns-clause-plan c =
-    let none = remove-comment-passes c.args.whole.now.state c.args.now c.args.dir.0 c.args.path.now c.in-Ok.id.0 c.in-Ok.ensures (sym c.has_no_comment.ensures ∙ c.if-has_no_comment.false) in
-    let p : Passes c.args.whole.now.state c.args.now (call.RemoveComment c.args.dir.0 c.args.path.now) = record {
-      may = c.calls_may_edit.ensures;
-      bring = c.edits_keep_numbers_in_ranges.ensures.calls;
-      date = c.date_in_range.ensures;
-      sound = c.keeps_sound.ensures.sound;
-      typed = c.keeps_sound.ensures.typed;
+    let none = remove-comment-passes c.args.whole.now.state c.args.user c.args.now c.args.dir.0 c.args.path.now c.in-Ok.id.0 c.in-Ok.ensures (sym c.lacks_above.ensures ∙ c.if-lacks_above.false) (sym c.has_no_comment.ensures ∙ c.if-has_no_comment.false) in
+    let p : Passes c.args.whole.now.state c.args.user c.args.now (call.RemoveComment c.args.dir.0 c.args.path.now) = record {
+      holds = c.laws_hold.ensures;
       formed_call = refl;
       typed_call = refl;
       passes = none;
     } in
-    plans-one c.args.whole.now.state c.args.now (call.RemoveComment c.args.dir.0 c.args.path.now) c.comments.result (edit.Comments c.in-Ok.id.0 []) c.plan_one.result p (c.comments.ensures ∙ ap (λ l. plain (edit.Comments c.in-Ok.id.0 l)) c.new.ensures) tt (remove-comment-edits c.args.whole.now.state c.args.now c.args.dir.0 c.args.path.now c.in-Ok.id.0 c.in-Ok.ensures) c.plan_one.ensures
+    plans-one c.args.whole.now.state c.args.user c.args.now (call.RemoveComment c.args.dir.0 c.args.path.now) c.comments.result (edit.Comments c.in-Ok.id.0 []) c.plan_one.result p (c.comments.ensures ∙ ap (λ l. plain (edit.Comments c.in-Ok.id.0 l)) c.new.ensures) tt (remove-comment-edits c.args.whole.now.state c.args.user c.args.now c.args.dir.0 c.args.path.now c.in-Ok.id.0 c.in-Ok.ensures) c.plan_one.ensures

@@ -4,7 +4,7 @@ use Rattle.volume_plans.proofs.TreeCalls.{tree-effect, tree-some}
 use Rattle.volume_plans.proofs.tree_call.plan_tree_call.Goals as goal
 
 pub returns-clause-effect : goal.returns-clause-effect
-returns-clause-effect c = tree-effect c.args.whole.now.state c.args.now (tree_call c.args.call.now) c.plan_by_call.result c.effects_are_edits.ensures.tree c.plan_by_call.ensures.plan
+returns-clause-effect c = tree-effect c.args.whole.now.state c.args.user c.args.now (tree_call c.args.call.now) c.plan_by_call.result c.effects_are_edits.ensures.tree c.plan_by_call.ensures.plan
 
 pub returns-clause-some : goal.returns-clause-some
-returns-clause-some c = tree-some c.args.whole.now.state (opened c.args.opens.now) c.args.now (tree_call c.args.call.now) c.plan_by_call.result c.requires c.plan_by_call.ensures.refused c.plan_by_call.ensures.plan
+returns-clause-some c = tree-some c.args.whole.now.state c.args.user (opened c.args.opens.now) c.args.now (tree_call c.args.call.now) c.plan_by_call.result c.requires c.plan_by_call.ensures.refused c.plan_by_call.ensures.plan
