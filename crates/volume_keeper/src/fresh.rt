@@ -1,7 +1,7 @@
 //! A volume that nobody has used, and its records.
 ghost use Rattle.std.specs.Prelude.{◌≡◌, ◌++◌, ◌∷◌, [], None, map, IfOk, OnOk, true, List, ℕ};
 ghost use Rattle.afp_names.specs.Name.{name_fault};
-ghost use Rattle.volume_spec.specs.VolumeState.{fresh_volume, new_row, root_id, root_parent};
+ghost use Rattle.volume_spec.specs.VolumeState.{fresh_volume, guest, new_row, root_id, root_parent};
 ghost use Rattle.record_keeper.specs.declared.record.Change.TheVariants.{Put};
 ghost use Rattle.volume_keeper_records.specs.Image.{node_of, rows_of, tables_of};
 ghost use Rattle.volume_keeper_records.specs.Migration.{put_of as the_put};
@@ -35,7 +35,7 @@ fn head_of(now: Moment) -> Head
 
 /// The root of a volume that is made at a moment: the guest owns it, and all have all rights.
 fn root_of(alloc: Global, name: &str, now: Moment) -> Result<Node, OutOfMemory>
-    ensures { IfOk result (λ root. root ≡ node_of version (new_row true root_id root_parent name.now now)) }
+    ensures { IfOk result (λ root. root ≡ node_of version (new_row true guest root_id root_parent name.now now)) }
 {
     let date = now.seconds() as i32;
     Ok(Node {

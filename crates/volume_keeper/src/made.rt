@@ -35,7 +35,7 @@ pub(crate) fn commit_made<K: Keeper>(
     if changes.is_empty() {
         return Ok(whole);
     }
-    match keeper.commit(alloc, changes.as_slice()) {
+    match keeper.commit(alloc, changes) {
         Ok(()) => Ok(whole),
         Err(KeeperFault::Failed) => Err(LoadFault::Failed),
         Err(KeeperFault::Memory) => Err(LoadFault::Memory),

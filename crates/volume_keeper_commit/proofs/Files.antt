@@ -102,6 +102,6 @@ pub node_there : (rows : List Row) (id : ℕ) → has_file rows id ≡ true → 
 node_there rows id e = node_found id rows e
 
 -- what is told of a file
-pub file_told : (rows : List Row) (opens : List Opened) (bits : ℕ) (file : Row) → file.dir ≡ false → params (bits_of bits 0 file) (node_values rows opens bits 0 file) ≡ params bits (fork_values opens bits file)
+pub file_told : (rows : List Row) (user : ℕ) (opens : List Opened) (bits : ℕ) (file : Row) → file.dir ≡ false → params (bits_of bits 0 file) (node_values rows user opens bits 0 file) ≡ params bits (fork_values opens bits file)
 unfolding node_values
-file_told rows opens bits file kind = ap (λ d. params (cond d 0 bits) (cond d (Dir (dir_values rows 0 file)) (fork_values opens bits file))) kind
+file_told rows user opens bits file kind = ap (λ d. params (cond d 0 bits) (cond d (Dir (dir_values rows user 0 file)) (fork_values opens bits file))) kind

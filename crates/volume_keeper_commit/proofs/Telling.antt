@@ -32,28 +32,28 @@ module _ (v whole : VolumeState) (comments : List Comment) (icons : List Icon) (
   unfolding volume_values free_bytes
   volume_same id bits = ap (λ (w : VolumeState). volume_values w id bits) is
 
-  pub open_same : (dir : ℕ) (path : PathValue) → open_dir_refusal v dir path ≡ open_dir_refusal whole dir path
+  pub open_same : (user dir : ℕ) (path : PathValue) → open_dir_refusal v user dir path ≡ open_dir_refusal whole user dir path
   unfolding open_dir_refusal
-  open_same dir path = ap (λ (w : VolumeState). open_dir_refusal w dir path) is
+  open_same user dir path = ap (λ (w : VolumeState). open_dir_refusal w user dir path) is
 
-  pub id_same : (dir : ℕ) (path : PathValue) → open_dir_id v dir path ≡ open_dir_id whole dir path
+  pub id_same : (user dir : ℕ) (path : PathValue) → open_dir_id v user dir path ≡ open_dir_id whole user dir path
   unfolding open_dir_id
-  id_same dir path = ap (λ (w : VolumeState). open_dir_id w dir path) is
+  id_same user dir path = ap (λ (w : VolumeState). open_dir_id w user dir path) is
 
-  pub fork_same : (bits : ℕ) (writes : Bool) (dir : ℕ) (path : PathValue) → open_fork_refusal v bits writes dir path ≡ open_fork_refusal whole bits writes dir path
+  pub fork_same : (user bits : ℕ) (reads writes : Bool) (dir : ℕ) (path : PathValue) → open_fork_refusal v user bits reads writes dir path ≡ open_fork_refusal whole user bits reads writes dir path
   unfolding open_fork_refusal
-  fork_same bits writes dir path = ap (λ (w : VolumeState). open_fork_refusal w bits writes dir path) is
+  fork_same user bits reads writes dir path = ap (λ (w : VolumeState). open_fork_refusal w user bits reads writes dir path) is
 
-  pub file_same : (dir : ℕ) (path : PathValue) → open_fork_file v dir path ≡ open_fork_file whole dir path
+  pub file_same : (user dir : ℕ) (path : PathValue) → open_fork_file v user dir path ≡ open_fork_file whole user dir path
   unfolding open_fork_file
-  file_same dir path = ap (λ (w : VolumeState). open_fork_file w dir path) is
+  file_same user dir path = ap (λ (w : VolumeState). open_fork_file w user dir path) is
 
   pub rows_same : v.rows ≡ whole.rows
   rows_same = ap (λ (w : VolumeState). w.rows) is
 
-  pub node_same : (file_bits dir_bits dir : ℕ) (path : PathValue) → get_file_dir_parms_refusal v file_bits dir_bits dir path ≡ get_file_dir_parms_refusal whole file_bits dir_bits dir path
+  pub node_same : (user file_bits dir_bits dir : ℕ) (path : PathValue) → get_file_dir_parms_refusal v user file_bits dir_bits dir path ≡ get_file_dir_parms_refusal whole user file_bits dir_bits dir path
   unfolding get_file_dir_parms_refusal
-  node_same file_bits dir_bits dir path = ap (λ (w : VolumeState). get_file_dir_parms_refusal w file_bits dir_bits dir path) is
+  node_same user file_bits dir_bits dir path = ap (λ (w : VolumeState). get_file_dir_parms_refusal w user file_bits dir_bits dir path) is
 
   pub list_same : (opens : List Opened) (asked : ListAsked) (dir : ℕ) (path : PathValue) → enumerate_refusal v opens asked dir path ≡ enumerate_refusal whole opens asked dir path
   unfolding enumerate_refusal
@@ -63,9 +63,9 @@ module _ (v whole : VolumeState) (comments : List Comment) (icons : List Icon) (
   unfolding enumerate_reply
   reply_same opens asked dir path = ap (λ (w : VolumeState). enumerate_reply w opens asked dir path) is
 
-  pub values_same : (opens : List Opened) (file_bits dir_bits dir : ℕ) (path : PathValue) → get_file_dir_parms_values v opens file_bits dir_bits dir path ≡ get_file_dir_parms_values whole opens file_bits dir_bits dir path
+  pub values_same : (user : ℕ) (opens : List Opened) (file_bits dir_bits dir : ℕ) (path : PathValue) → get_file_dir_parms_values v user opens file_bits dir_bits dir path ≡ get_file_dir_parms_values whole user opens file_bits dir_bits dir path
   unfolding get_file_dir_parms_values
-  values_same opens file_bits dir_bits dir path = ap (λ (w : VolumeState). get_file_dir_parms_values w opens file_bits dir_bits dir path) is
+  values_same user opens file_bits dir_bits dir path = ap (λ (w : VolumeState). get_file_dir_parms_values w user opens file_bits dir_bits dir path) is
 
 -- where the id that is told is that of the volume without its desktop database
 pub id_told : (result : Result NodeId PlanFault) (a b : Option ℕ) → a ≡ b → IfOk result (λ id. a ≡ Some id.0) → IfOk result (λ id. b ≡ Some id.0)
@@ -78,12 +78,12 @@ told_id (Ok id) P Q told more = more id told
 told_id (Err fault) P Q told more = tt
 
 -- where a node is told of, the reply has its values
-pub node_told : FoundIsTold → (v : VolumeState) → IsSoundVolume v → (opens : List Opened) (file_bits dir_bits dir : ℕ) (path : PathValue) (result : Result (Unit {0}) PlanFault) → Refuses result (get_file_dir_parms_refusal v file_bits dir_bits dir path)
-    → (out old : List ℕ) → OnOk result ((values : Values) → get_file_dir_parms_values v opens file_bits dir_bits dir path ≡ Some values → out ≡ old ++ canonical_reply (FileDirParams file_bits dir_bits values))
-    → OnOk result (out ≡ old ++ canonical_reply (get_file_dir_parms_reply file_bits dir_bits (get_file_dir_parms_values v opens file_bits dir_bits dir path)))
-node_told law v sound opens file_bits dir_bits dir path (Err fault) refuses out old told = told
-node_told law v sound opens file_bits dir_bits dir path (Ok done) refuses out old told =
-    there (get_file_dir_parms_values v opens file_bits dir_bits dir path) (law v opens file_bits dir_bits dir path refuses sound) told
+pub node_told : FoundIsTold → (v : VolumeState) → IsSoundVolume v → (user : ℕ) (opens : List Opened) (file_bits dir_bits dir : ℕ) (path : PathValue) (result : Result (Unit {0}) PlanFault) → Refuses result (get_file_dir_parms_refusal v user file_bits dir_bits dir path)
+    → (out old : List ℕ) → OnOk result ((values : Values) → get_file_dir_parms_values v user opens file_bits dir_bits dir path ≡ Some values → out ≡ old ++ canonical_reply (FileDirParams file_bits dir_bits values))
+    → OnOk result (out ≡ old ++ canonical_reply (get_file_dir_parms_reply file_bits dir_bits (get_file_dir_parms_values v user opens file_bits dir_bits dir path)))
+node_told law v sound user opens file_bits dir_bits dir path (Err fault) refuses out old told = told
+node_told law v sound user opens file_bits dir_bits dir path (Ok done) refuses out old told =
+    there (get_file_dir_parms_values v user opens file_bits dir_bits dir path) (law v user opens file_bits dir_bits dir path refuses sound) told
   where
     there : (o : Option Values) → is_some o ≡ true → ((values : Values) → o ≡ Some values → out ≡ old ++ canonical_reply (FileDirParams file_bits dir_bits values)) → out ≡ old ++ canonical_reply (get_file_dir_parms_reply file_bits dir_bits o)
     there None e told = absurd (cc)
@@ -108,9 +108,9 @@ list_bits asked = (is_outside file_mask asked.file_bits, BitmapErr) ∷ (is_outs
 
 -- where a list is not refused, the reply is that of the directory that was found
 pub list_told : (v : VolumeState) (opens : List Opened) (asked : ListAsked) (dir : ℕ) (path : PathValue) (result : Result (Unit {0}) PlanFault) → Refuses result (enumerate_refusal v opens asked dir path)
-    → (out old : List ℕ) → OnOk result ((id : ℕ) → found v.rows dir path ≡ Ok id → out ≡ old ++ canonical_reply (list_reply v.rows opens asked (entries v.rows opens asked id)))
+    → (out old : List ℕ) → OnOk result ((id : ℕ) → found v.rows asked.user dir path ≡ Ok id → out ≡ old ++ canonical_reply (list_reply v.rows opens asked (entries v.rows opens asked id)))
     → OnOk result (out ≡ old ++ canonical_reply (enumerate_reply v opens asked dir path))
 unfolding enumerate_refusal enumerate_reply
 list_told v opens asked dir path (Err fault) refuses out old told = told
 list_told v opens asked dir path (Ok done) refuses out old told =
-    found_told (list_bits asked) (found v.rows dir path) _ (λ id. list_reply v.rows opens asked (entries v.rows opens asked id)) out old refuses told
+    found_told (list_bits asked) (found v.rows asked.user dir path) _ (λ id. list_reply v.rows opens asked (entries v.rows opens asked id)) out old refuses told

@@ -46,24 +46,30 @@ impl<K: Keeper> KeptVolume<K> {
         }
     }
 
-    /// Carries a call out that changes the volume's tree: its changes are committed to the keeper, then the volume changes, for
-    /// which no memory is taken. `opens` tells which forks of the volume are open. At an error nothing has changed but, beside `Failed`, the
+    /// Carries a call of a user out that changes the volume's tree: its changes are committed to the keeper, then the volume changes, for
+    /// which no memory is taken. `opens` tells which forks of the volume are open, and `behind` what the call is refused for where the volume does not
+    /// refuse it. At an error nothing has changed but, beside `Failed`, the
     /// keeper's count.
     pub fn change(
         &mut self,
         alloc: Global,
+        user: u32,
         now: Moment,
         opens: &VolumeOpens<'_>,
+        behind: Option<Code>,
         call: &Call,
     ) -> Result<(), ChangeFault>
         requires { IsSome (tree_call call.now) }
-        ensures { IfSome (tree_call call.now) (λ call. Changes self.old now (opened opens.now) call result self.new) }
+        ensures { IfSome (tree_call call.now) (λ call. Changes self.old user now (opened opens.now) behind call result self.new) }
     {
-        let plan = match plan_tree_call(alloc, &self.whole, now, opens, call) {
+        let plan = match plan_tree_call(alloc, &self.whole, user, now, opens, call) {
             Ok(plan) => plan,
             Err(PlanFault::Code(code)) => return Err(ChangeFault::Refused(code)),
             Err(PlanFault::Memory) => return Err(ChangeFault::Memory),
         };
-        self.carry_out(alloc, plan)
+        match behind {
+            Some(code) => Err(ChangeFault::Refused(code)),
+            None => self.carry_out(alloc, plan),
+        }
     }
 }

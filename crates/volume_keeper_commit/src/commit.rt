@@ -31,7 +31,7 @@ impl<K: Keeper> KeptVolume<K> {
         if self.whole.reserve(alloc).is_err() {
             return Err(KeeperFault::Memory);
         }
-        match self.keeper.commit(alloc, changes.as_slice()) {
+        match self.keeper.commit(alloc, changes) {
             Ok(()) => {
                 self.whole.apply(alloc, plan);
                 Ok(())

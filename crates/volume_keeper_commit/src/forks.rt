@@ -20,6 +20,7 @@ use record_keeper::Keeper;
 use std::alloc::Global;
 use volume_edits::WholeVolume;
 use volume_spec::laws::forks_are_given_bytes;
+use volume_spec::limits::GUEST;
 
 /// The fork of an id that is a file's.
 pub(crate) fn fork_in(whole: &WholeVolume, id: NodeId, resource: bool) -> &Fork
@@ -112,7 +113,7 @@ impl<K: Keeper> KeptVolume<K> {
     {
         let whole = &self.whole;
         whole.keeps_sound();
-        match volume_tree_replies::node_params(alloc, &whole.tree, id, opens, bits, 0, out) {
+        match volume_tree_replies::node_params(alloc, &whole.tree, GUEST, id, opens, bits, 0, out) {
             Ok(_) => Ok(()),
             Err(fault) => Err(fault),
         }

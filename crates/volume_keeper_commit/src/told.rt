@@ -43,38 +43,47 @@ impl<K: Keeper> KeptVolume<K> {
         volume_tree_replies::get_vol_parms(alloc, &whole.tree, id, bits, out)
     }
 
-    /// FPOpenDir on the volume.
-    pub fn open_dir(&self, alloc: Global, dir: NodeId, path: &Path) -> Result<NodeId, PlanFault>
-        ensures refused { Refuses result (open_dir_refusal self.now.state dir.0 path.now) }
-        ensures id { IfOk result (λ id. open_dir_id self.now.state dir.0 path.now ≡ Some id.0) }
+    /// FPOpenDir of a user on the volume.
+    pub fn open_dir(
+        &self,
+        alloc: Global,
+        user: u32,
+        dir: NodeId,
+        path: &Path,
+    ) -> Result<NodeId, PlanFault>
+        ensures refused { Refuses result (open_dir_refusal self.now.state user dir.0 path.now) }
+        ensures id { IfOk result (λ id. open_dir_id self.now.state user dir.0 path.now ≡ Some id.0) }
     {
         let whole = &self.whole;
-        volume_tree_replies::open_dir(alloc, &whole.tree, dir, path)
+        volume_tree_replies::open_dir(alloc, &whole.tree, user, dir, path)
     }
 
-    /// The id of the file that FPOpenFork finds on the volume, or why the volume refuses that. `bits` are those of what is to be told of the file, and
-    /// `writes` says whether the fork is to be written.
+    /// The id of the file that FPOpenFork of a user finds on the volume, or why the volume refuses that. `bits` are those of what is to be told of the file, and
+    /// `reads` and `writes` say whether the fork is to be read and to be written.
     pub fn open_fork(
         &self,
         alloc: Global,
+        user: u32,
         bits: u16,
+        reads: bool,
         writes: bool,
         dir: NodeId,
         path: &Path,
     ) -> Result<NodeId, PlanFault>
-        ensures refused { Refuses result (open_fork_refusal self.now.state bits writes dir.0 path.now) }
+        ensures refused { Refuses result (open_fork_refusal self.now.state user bits reads writes dir.0 path.now) }
         ensures file { IfOk result (λ id. has_file self.now.state.rows id.0 ≡ true) }
-        ensures found { IfOk result (λ id. open_fork_file self.now.state dir.0 path.now ≡ row_at self.now.state.rows id.0) }
-        ensures id { IfOk result (λ id. option_map (λ (file : Row). file.id) (open_fork_file self.now.state dir.0 path.now) ≡ Some id.0) }
+        ensures found { IfOk result (λ id. open_fork_file self.now.state user dir.0 path.now ≡ row_at self.now.state.rows id.0) }
+        ensures id { IfOk result (λ id. option_map (λ (file : Row). file.id) (open_fork_file self.now.state user dir.0 path.now) ≡ Some id.0) }
     {
         let whole = &self.whole;
-        volume_tree_replies::open_fork(alloc, &whole.tree, bits, writes, dir, path)
+        volume_tree_replies::open_fork(alloc, &whole.tree, user, bits, reads, writes, dir, path)
     }
 
-    /// FPGetFileDirParms on the volume with these open forks: its reply's bytes, at the end of `out`. An error leaves `out`.
+    /// FPGetFileDirParms of a user on the volume with these open forks: its reply's bytes, at the end of `out`. An error leaves `out`.
     pub fn get_file_dir_parms(
         &self,
         alloc: Global,
+        user: u32,
         opens: &VolumeOpens<'_>,
         file_bits: u16,
         dir_bits: u16,
@@ -82,8 +91,8 @@ impl<K: Keeper> KeptVolume<K> {
         path: &Path,
         out: &mut Bytes,
     ) -> Result<(), PlanFault>
-        ensures refused { Refuses result (get_file_dir_parms_refusal self.now.state file_bits dir_bits dir.0 path.now) }
-        ensures ok { OnOk result (out.new ≡ out.old ++ canonical_reply (get_file_dir_parms_reply file_bits dir_bits (get_file_dir_parms_values self.now.state (opened opens.now) file_bits dir_bits dir.0 path.now))) }
+        ensures refused { Refuses result (get_file_dir_parms_refusal self.now.state user file_bits dir_bits dir.0 path.now) }
+        ensures ok { OnOk result (out.new ≡ out.old ++ canonical_reply (get_file_dir_parms_reply file_bits dir_bits (get_file_dir_parms_values self.now.state user (opened opens.now) file_bits dir_bits dir.0 path.now))) }
         ensures err { OnErr result (out.new ≡ out.old) }
     {
         values_are_those_asked_for();
@@ -92,6 +101,7 @@ impl<K: Keeper> KeptVolume<K> {
         volume_tree_replies::get_file_dir_parms(
             alloc,
             &whole.tree,
+            user,
             opens,
             file_bits,
             dir_bits,

@@ -16,4 +16,4 @@ returns-in-Ok-clause-ok g c = λ file found.
     let rows : c.whole.inside.tree.state.rows ≡ c.args.self.now.state.rows = search rules in
     let sound : IsSoundVolume c.args.self.now.state = search rules in
     c.in-Ok.ensures.ok file (ap (λ (l : List Row). row_at l c.args.id.0) rows ∙ found)
-    ∙ ap (λ (l : List ℕ). c.args.out.now ++ l) (file_told c.whole.inside.tree.state.rows (opened c.args.opens.now) c.args.bits file (file_kind c.args.self.now.state sound c.args.id.0 file c.requires.file found))
+    ∙ ap (λ (l : List ℕ). c.args.out.now ++ l) (file_told c.whole.inside.tree.state.rows 500 (opened c.args.opens.now) c.args.bits file (file_kind c.args.self.now.state sound c.args.id.0 file c.requires.file found))

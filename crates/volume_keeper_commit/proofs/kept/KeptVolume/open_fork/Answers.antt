@@ -15,7 +15,7 @@ pub returns-clause-refused : goal.returns-clause-refused
 returns-clause-refused g c =
     let is : with_desktop c.whole.inside.tree.state c.whole.inside.desktop.comments c.whole.inside.desktop.icons c.whole.inside.desktop.appls ≡ c.args.self.now.state = search rules in
     subst (λ (refused : Option Code). Refuses c.open_fork.result refused)
-    (fork_same c.whole.inside.tree.state c.args.self.now.state c.whole.inside.desktop.comments c.whole.inside.desktop.icons c.whole.inside.desktop.appls is c.args.bits c.args.writes c.args.dir.0 c.args.path.now)
+    (fork_same c.whole.inside.tree.state c.args.self.now.state c.whole.inside.desktop.comments c.whole.inside.desktop.icons c.whole.inside.desktop.appls is c.args.user c.args.bits c.args.reads c.args.writes c.args.dir.0 c.args.path.now)
     c.open_fork.ensures.refused
 
 pub returns-clause-file : goal.returns-clause-file
@@ -29,15 +29,15 @@ pub returns-clause-found : goal.returns-clause-found
 returns-clause-found g c =
     let is : with_desktop c.whole.inside.tree.state c.whole.inside.desktop.comments c.whole.inside.desktop.icons c.whole.inside.desktop.appls ≡ c.args.self.now.state = search rules in
     let rows = rows_same c.whole.inside.tree.state c.args.self.now.state c.whole.inside.desktop.comments c.whole.inside.desktop.icons c.whole.inside.desktop.appls is in
-    let file = file_same c.whole.inside.tree.state c.args.self.now.state c.whole.inside.desktop.comments c.whole.inside.desktop.icons c.whole.inside.desktop.appls is c.args.dir.0 c.args.path.now in
-    told_id c.open_fork.result (λ (id : NodeId). open_fork_file c.whole.inside.tree.state c.args.dir.0 c.args.path.now ≡ row_at c.whole.inside.tree.state.rows id.0)
-    (λ (id : NodeId). open_fork_file c.args.self.now.state c.args.dir.0 c.args.path.now ≡ row_at c.args.self.now.state.rows id.0) c.open_fork.ensures.found
+    let file = file_same c.whole.inside.tree.state c.args.self.now.state c.whole.inside.desktop.comments c.whole.inside.desktop.icons c.whole.inside.desktop.appls is c.args.user c.args.dir.0 c.args.path.now in
+    told_id c.open_fork.result (λ (id : NodeId). open_fork_file c.whole.inside.tree.state c.args.user c.args.dir.0 c.args.path.now ≡ row_at c.whole.inside.tree.state.rows id.0)
+    (λ (id : NodeId). open_fork_file c.args.self.now.state c.args.user c.args.dir.0 c.args.path.now ≡ row_at c.args.self.now.state.rows id.0) c.open_fork.ensures.found
     (λ id told. sym file ∙ told ∙ ap (λ (l : List Row). row_at l id.0) rows)
 
 pub returns-clause-id : goal.returns-clause-id
 returns-clause-id g c =
     let is : with_desktop c.whole.inside.tree.state c.whole.inside.desktop.comments c.whole.inside.desktop.icons c.whole.inside.desktop.appls ≡ c.args.self.now.state = search rules in
-    let file = file_same c.whole.inside.tree.state c.args.self.now.state c.whole.inside.desktop.comments c.whole.inside.desktop.icons c.whole.inside.desktop.appls is c.args.dir.0 c.args.path.now in
-    told_id c.open_fork.result (λ (id : NodeId). option_map (λ (row : Row). row.id) (open_fork_file c.whole.inside.tree.state c.args.dir.0 c.args.path.now) ≡ Some id.0)
-    (λ (id : NodeId). option_map (λ (row : Row). row.id) (open_fork_file c.args.self.now.state c.args.dir.0 c.args.path.now) ≡ Some id.0) c.open_fork.ensures.id
+    let file = file_same c.whole.inside.tree.state c.args.self.now.state c.whole.inside.desktop.comments c.whole.inside.desktop.icons c.whole.inside.desktop.appls is c.args.user c.args.dir.0 c.args.path.now in
+    told_id c.open_fork.result (λ (id : NodeId). option_map (λ (row : Row). row.id) (open_fork_file c.whole.inside.tree.state c.args.user c.args.dir.0 c.args.path.now) ≡ Some id.0)
+    (λ (id : NodeId). option_map (λ (row : Row). row.id) (open_fork_file c.args.self.now.state c.args.user c.args.dir.0 c.args.path.now) ≡ Some id.0) c.open_fork.ensures.id
     (λ id told. ap (λ (o : Option Row). option_map (λ (row : Row). row.id) o) (sym file) ∙ told)
