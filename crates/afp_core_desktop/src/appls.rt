@@ -46,7 +46,16 @@ pub fn add_appl<K: Keeper>(
         return Ok((refused(state.alloc, Code::ParamErr), Outcome::Done));
     };
     let volume = whole_at(state, index);
-    let answer = plan_add_appl(state.alloc, volume, latest(state), dir, creator, tag, path);
+    let answer = plan_add_appl(
+        state.alloc,
+        volume,
+        state.user(session),
+        latest(state),
+        dir,
+        creator,
+        tag,
+        path,
+    );
     let nothing = Bytes::new(state.alloc);
     run_plan(state, index, answer, nothing)
 }
@@ -66,7 +75,15 @@ pub fn remove_appl<K: Keeper>(
         return Ok((refused(state.alloc, Code::ParamErr), Outcome::Done));
     };
     let volume = whole_at(state, index);
-    let answer = plan_remove_appl(state.alloc, volume, latest(state), dir, creator, path);
+    let answer = plan_remove_appl(
+        state.alloc,
+        volume,
+        state.user(session),
+        latest(state),
+        dir,
+        creator,
+        path,
+    );
     let nothing = Bytes::new(state.alloc);
     run_plan(state, index, answer, nothing)
 }

@@ -5,7 +5,7 @@ ghost use Rattle.afp_replies.specs.Replies.{canonical_reply};
 ghost use Rattle.afp_replies.specs.declared.reply.Reply.TheVariants.{Comment};
 ghost use Rattle.afp_calls_grammar.specs.declared.call.Call.{Call};
 ghost use Rattle.afp_serial.specs.Comments.{get_comment_reply};
-ghost use Rattle.volume_spec.specs.Comments.{comment_there_refusal, get_comment_text};
+ghost use Rattle.volume_spec.specs.Comments.{get_comment_refusal, get_comment_text};
 ghost use Rattle.volume_spec.specs.Desktop.{comment_at};
 ghost use Rattle.volume_spec.specs.VolumeState.{Comment as NodeComment};
 ghost use Rattle.volume_tree.specs.Answered.{Refuses};
@@ -38,7 +38,15 @@ pub fn add_comment<K: Keeper>(
     };
     let text = comment.copy()?;
     let volume = whole_at(state, index);
-    let answer = plan_add_comment(state.alloc, volume, latest(state), dir, path, text);
+    let answer = plan_add_comment(
+        state.alloc,
+        volume,
+        state.user(session),
+        latest(state),
+        dir,
+        path,
+        text,
+    );
     let nothing = Bytes::new(state.alloc);
     run_plan(state, index, answer, nothing)
 }
@@ -57,7 +65,14 @@ pub fn remove_comment<K: Keeper>(
         return Ok((refused(state.alloc, Code::ParamErr), Outcome::Done));
     };
     let volume = whole_at(state, index);
-    let answer = plan_remove_comment(state.alloc, volume, latest(state), dir, path);
+    let answer = plan_remove_comment(
+        state.alloc,
+        volume,
+        state.user(session),
+        latest(state),
+        dir,
+        path,
+    );
     let nothing = Bytes::new(state.alloc);
     run_plan(state, index, answer, nothing)
 }
@@ -77,7 +92,14 @@ pub fn get_comment<K: Keeper>(
     };
     let mut block = Bytes::new(state.alloc);
     let volume = whole_at(state, index);
-    let answer = put_comment(state.alloc, volume, dir, path, &mut block);
+    let answer = put_comment(
+        state.alloc,
+        volume,
+        state.user(session),
+        dir,
+        path,
+        &mut block,
+    );
     told_of(state.alloc, answer, block)
 }
 
@@ -101,20 +123,21 @@ fn put_text(text: &[u8], out: &mut Bytes) -> Result<(), OutOfMemory>
     out.extend(text)
 }
 
-/// Appends what is told of the comment of the node to which a path leads, or tells why there is none. An error changes nothing.
-#[tactic(auto, unfolding(volume_spec::specs::Comments::comment_there_refusal, volume_spec::specs::Comments::get_comment_text))]
+/// Appends what is told of the comment of the node to which a path leads a user, or tells why there is none. An error changes nothing.
+#[tactic(auto, unfolding(volume_spec::specs::Comments::get_comment_refusal, volume_spec::specs::Comments::get_comment_text))]
 fn put_comment(
     alloc: Global,
     volume: &WholeVolume,
+    user: u32,
     dir: NodeId,
     path: &Path,
     out: &mut Bytes,
 ) -> Result<(), PlanFault>
-    ensures refused { Refuses result (comment_there_refusal volume.now.state dir.0 path.now) }
-    ensures ok { OnOk result (out.new ≡ out.old ++ canonical_reply (get_comment_reply (get_comment_text volume.now.state dir.0 path.now))) }
+    ensures refused { Refuses result (get_comment_refusal volume.now.state user dir.0 path.now) }
+    ensures ok { OnOk result (out.new ≡ out.old ++ canonical_reply (get_comment_reply (get_comment_text volume.now.state user dir.0 path.now))) }
     ensures err { OnErr result (out.new ≡ out.old) }
 {
-    let id = match volume.resolve(alloc, dir, path) {
+    let id = match volume.resolve(alloc, user, dir, path) {
         Ok(id) => id,
         Err(fault) => return Err(fault),
     };

@@ -43,7 +43,15 @@ pub fn add_icon<K: Keeper>(
     let bits = piece.copy()?;
     let key = icon_key(creator, kind, icon_kind);
     let volume = whole_at(state, index);
-    let answer = plan_add_icon(state.alloc, volume, latest(state), key, tag, bits);
+    let answer = plan_add_icon(
+        state.alloc,
+        volume,
+        state.user(session),
+        latest(state),
+        key,
+        tag,
+        bits,
+    );
     let nothing = Bytes::new(state.alloc);
     run_plan(state, index, answer, nothing)
 }

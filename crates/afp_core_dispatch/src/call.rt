@@ -47,10 +47,10 @@ use afp_core_volumes::get_file_dir_parms::get_file_dir_parms;
 use afp_core_volumes::get_vol_parms::get_vol_parms;
 use afp_core_volumes::open_dir::{close_dir, open_dir};
 use afp_core_volumes::open_vol::open_vol;
+use afp_core_volumes::set_dir_parms::set_dir_parms;
 use afp_core_volumes::tree_changes::change_alone;
 use afp_serial::{Outcome, Told, told_at_most};
 use record_keeper::Keeper;
-use volume_keeper_commit::ListAsked;
 
 /// Answers a request on a link: its session is found, what is kept for it, the call that it spells, and its row.
 pub fn call<K: Keeper>(
@@ -177,17 +177,9 @@ fn row<K: Keeper>(
             start,
             size,
             path,
-        } => {
-            let asked = ListAsked {
-                wide: false,
-                file_bits: *file_bits,
-                dir_bits: *dir_bits,
-                count: *count,
-                start: u32::from(*start),
-                size: u32::from(*size),
-            };
-            enumerate(state, session, *volume, *dir, asked, path)
-        }
+        } => enumerate(
+            state, session, *volume, *dir, *file_bits, *dir_bits, *count, *start, *size, path,
+        ),
         Call::EnumerateExt {
             volume,
             dir,
@@ -197,17 +189,9 @@ fn row<K: Keeper>(
             start,
             size,
             path,
-        } => {
-            let asked = ListAsked {
-                wide: true,
-                file_bits: *file_bits,
-                dir_bits: *dir_bits,
-                count: *count,
-                start: u32::from(*start),
-                size: u32::from(*size),
-            };
-            enumerate_ext(state, session, *volume, *dir, asked, path)
-        }
+        } => enumerate_ext(
+            state, session, *volume, *dir, *file_bits, *dir_bits, *count, *start, *size, path,
+        ),
         Call::EnumerateExt2 {
             volume,
             dir,
@@ -217,17 +201,9 @@ fn row<K: Keeper>(
             start,
             size,
             path,
-        } => {
-            let asked = ListAsked {
-                wide: true,
-                file_bits: *file_bits,
-                dir_bits: *dir_bits,
-                count: *count,
-                start: *start,
-                size: *size,
-            };
-            enumerate_ext2(state, session, *volume, *dir, asked, path)
-        }
+        } => enumerate_ext2(
+            state, session, *volume, *dir, *file_bits, *dir_bits, *count, *start, *size, path,
+        ),
         Call::Flush { volume } => flush(state, session, *volume),
         Call::GetFileDirParms {
             volume,
@@ -284,7 +260,12 @@ fn row<K: Keeper>(
         Call::OpenDir { volume, dir, path } => open_dir(state, session, *volume, *dir, path),
         Call::OpenVol { bits, name } => open_vol(state, session, *bits, name.as_slice()),
         Call::Rename { volume, .. } => change_alone(state, session, *volume, call),
-        Call::SetDirParms { volume, .. } => change_alone(state, session, *volume, call),
+        Call::SetDirParms {
+            volume,
+            bits,
+            tail,
+            ..
+        } => set_dir_parms(state, session, *volume, *bits, tail.as_slice(), call),
         Call::SetFileDirParms { volume, .. } => change_alone(state, session, *volume, call),
         Call::SetFileParms { volume, .. } => change_alone(state, session, *volume, call),
         Call::SetVolParms { volume, .. } => change_alone(state, session, *volume, call),

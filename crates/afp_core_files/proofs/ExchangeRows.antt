@@ -10,7 +10,7 @@ use Rattle.afp_replies.specs.declared.reply.Reply.TheVariants.{Empty}
 use Rattle.afp_calls_grammar.specs.declared.call.Call.{Call}
 use Rattle.afp_serial.specs.Answer.{refusal_reply}
 use Rattle.afp_serial.specs.ExchangeFiles.{exchange_files_row, exchanging, opens_exchanged, pair_on}
-use Rattle.afp_serial.specs.World.{Effect, CallRow, plain, World, Session}
+use Rattle.afp_serial.specs.World.{Effect, CallRow, plain, user_of, World, Session}
 use Rattle.afp_serial.specs.OnVolume.{done_on}
 use Rattle.afp_serial.specs.VolumeRows.{edits_on, keeper_of_edits, with_edits}
 use Rattle.afp_serial.specs.Rows.{effect, ends_session, refusal, row}
@@ -30,7 +30,7 @@ use Rattle.record_keeper.specs.declared.keeper.KeeperFault.{KeeperFault}
 use Rattle.record_keeper.specs.declared.keeper.KeeperFault.TheVariants as keeper
 use Rattle.session_table.specs.Sessions.{session_of}
 use Rattle.afp_core_state.specs.KeptWorld.{KeptWorld}
-use Rattle.afp_core_state.specs.OnVolumes.{BecomesKept, IsOpen, IsOpenAt}
+use Rattle.afp_core_state.specs.OnVolumes.{BecomesKept, IsOpen, IsOpenAt, IsUser}
 use Rattle.volume_keeper_commit.specs.Commits.{Commits}
 use Rattle.afp_core_state.specs.Planned.{TellsCommitted}
 use Rattle.afp_core_state.specs.Replies.{Tells}
@@ -43,52 +43,55 @@ use Rattle.afp_core_files.specs.lemma.Exchanging.{RunsExchange, exchanged_behind
 module _ (k : KeptWorld) (number : ℕ) (call : Call) (volume dir second_dir : ℕ) (path second_path : PathValue) (row_is : row call ≡ exchange_files_row volume dir second_dir path second_path) (goes : ends_session call ≡ false) where
   pub exchange-unopened : (told : Told) → IsOpen k number volume None → told ≡ refusal_reply ParamErr → RunsRow k number call (with_ok (done told)) k
   exchange-unopened told stands is = λ s at.
-      is_refused k k s call ParamErr told (ap (λ (r : CallRow). first_holding (r.refusals k.world s)) row_is ∙ stands s at (λ v. exchange_files_refusal v dir path second_dir second_path)) is refl
+      is_refused k k s call ParamErr told (ap (λ (r : CallRow). first_holding (r.refusals k.world s)) row_is ∙ stands s at (λ v. exchange_files_refusal v (user_of s) dir path second_dir second_path)) is refl
 
-  exchange-refuses : (index : ℕ) (v : VolumeState) → IsOpenAt k number volume index → slice_get k.world.volumes index ≡ Some v → (s : Session) → session_of k.world.sessions number ≡ Some s
-      → refusal k.world s call ≡ option_map plain (exchange_files_refusal v dir path second_dir second_path)
-  exchange-refuses index v stands there s at =
+  exchange-refuses : (user index : ℕ) (v : VolumeState) → IsUser k number user → IsOpenAt k number volume index → slice_get k.world.volumes index ≡ Some v → (s : Session) → session_of k.world.sessions number ≡ Some s
+      → refusal k.world s call ≡ option_map plain (exchange_files_refusal v user dir path second_dir second_path)
+  exchange-refuses user index v calls stands there s at =
       ap (λ (r : CallRow). first_holding (r.refusals k.world s)) row_is
-      ∙ refused-on k.world s volume v (λ x. exchange_files_refusal x dir path second_dir second_path) (stands.opened s at) (found-at k number volume index v stands there)
+      ∙ refused-on k.world s volume v (λ x. exchange_files_refusal x (user_of s) dir path second_dir second_path) (stands.opened s at) (found-at k number volume index v stands there)
+      ∙ ap (λ (u : ℕ). option_map plain (exchange_files_refusal v u dir path second_dir second_path)) (sym (calls s at))
 
-  exchange-refused : (index : ℕ) (v : VolumeState) (code : Code) (told : Told) → IsOpenAt k number volume index → slice_get k.world.volumes index ≡ Some v
-      → exchange_files_refusal v dir path second_dir second_path ≡ Some code → told ≡ refusal_reply code → RunsRow k number call (with_ok (done told)) k
-  exchange-refused index v code told stands there refused is = λ s at.
-      is_refused k k s call code told (exchange-refuses index v stands there s at ∙ ap (option_map plain) refused) is refl
+  exchange-refused : (user index : ℕ) (v : VolumeState) (code : Code) (told : Told) → IsUser k number user → IsOpenAt k number volume index → slice_get k.world.volumes index ≡ Some v
+      → exchange_files_refusal v user dir path second_dir second_path ≡ Some code → told ≡ refusal_reply code → RunsRow k number call (with_ok (done told)) k
+  exchange-refused user index v code told calls stands there refused is = λ s at.
+      is_refused k k s call code told (exchange-refuses user index v calls stands there s at ∙ ap (option_map plain) refused) is refl
 
-  pub exchange-told : (index : ℕ) (v : VolumeState) (f : PlanFault) (block : List ℕ) (result : Result (Told × Outcome) OutOfMemory) → IsOpenAt k number volume index → slice_get k.world.volumes index ≡ Some v
-      → Refuses {A = PlanValue} (Err f) (exchange_files_refusal v dir path second_dir second_path) → Tells (Err f) block result → RunsRow k number call result k
-  exchange-told index v (fault.Code code) block (with_ok r) stands there refused told =
-      subst (λ (x : Told × Outcome). RunsRow k number call (with_ok x) k) (sym told) (exchange-refused index v code (refusal_reply code) stands there refused refl)
-  exchange-told index v (fault.Code code) block (Err e) stands there refused told = absurd told
-  exchange-told index v fault.Memory block (with_ok r) stands there refused told = absurd told
-  exchange-told index v fault.Memory block (Err e) stands there refused told = refl
+  pub exchange-told : (user index : ℕ) (v : VolumeState) (f : PlanFault) (block : List ℕ) (result : Result (Told × Outcome) OutOfMemory) → IsUser k number user → IsOpenAt k number volume index → slice_get k.world.volumes index ≡ Some v
+      → Refuses {A = PlanValue} (Err f) (exchange_files_refusal v user dir path second_dir second_path) → Tells (Err f) block result → RunsRow k number call result k
+  exchange-told user index v (fault.Code code) block (with_ok r) calls stands there refused told =
+      subst (λ (x : Told × Outcome). RunsRow k number call (with_ok x) k) (sym told) (exchange-refused user index v code (refusal_reply code) calls stands there refused refl)
+  exchange-told user index v (fault.Code code) block (Err e) calls stands there refused told = absurd told
+  exchange-told user index v fault.Memory block (with_ok r) calls stands there refused told = absurd told
+  exchange-told user index v fault.Memory block (Err e) calls stands there refused told = refl
 
-  module _ (index : ℕ) (v : VolumeState) (plan : PlanValue) (pair : Pair) (stands : IsOpenAt k number volume index) (there : slice_get k.world.volumes index ≡ Some v)
-      (passes : exchange_files_refusal v dir path second_dir second_path ≡ None) (plans : Plans v k.world.latest (ExchangeFiles dir path second_dir second_path) plan) (found : exchanged_files v dir path second_dir second_path ≡ Some pair) where
+  module _ (user index : ℕ) (v : VolumeState) (plan : PlanValue) (pair : Pair) (calls : IsUser k number user) (stands : IsOpenAt k number volume index) (there : slice_get k.world.volumes index ≡ Some v)
+      (passes : exchange_files_refusal v user dir path second_dir second_path ≡ None) (plans : Plans v user k.world.latest (ExchangeFiles dir path second_dir second_path) plan) (found : exchanged_files v user dir path second_dir second_path ≡ Some pair) where
     exchange-done : (between new : KeptWorld) (told : Told) → BecomesKept k index (λ old one. Commits old plan (with_ok tt) one) between → new ≡ with_exchanged volume pair between → told ≡ Reply Ok [] false
         → RunsRow k number call (with_ok (done told)) new
     exchange-done between new told b behind is = λ s at.
-        let edits = call_edits v k.world.latest (ExchangeFiles dir path second_dir second_path) in
+        let edits = call_edits v user k.world.latest (ExchangeFiles dir path second_dir second_path) in
         let with = with_edits k.world volume v edits in
         let next : World = record with { opens = opens_exchanged volume (Some pair) with.opens } in
         let of : Effect = record { world = next; reply = Empty } in
         let at_volume = found-at k number volume index v stands there in
         let does : effect k.world s call ≡ of =
         ap (λ (r : CallRow). r.effect k.world s) row_is
-        ∙ ap (λ (o : Option VolumeState). exchanging volume (pair_on o dir path second_dir second_path) (done_on o k.world (λ x. record { world = with_edits k.world volume x (call_edits x k.world.latest (ExchangeFiles dir path second_dir second_path)); reply = Empty }))) at_volume
+        ∙ ap (λ (o : Option VolumeState). exchanging volume (pair_on o (user_of s) dir path second_dir second_path) (done_on o k.world (λ x. record { world = with_edits k.world volume x (call_edits x (user_of s) k.world.latest (ExchangeFiles dir path second_dir second_path)); reply = Empty }))) at_volume
+        ∙ ap (λ (u : ℕ). exchanging volume (exchanged_files v u dir path second_dir second_path) (record { world = with_edits k.world volume v (call_edits v u k.world.latest (ExchangeFiles dir path second_dir second_path)); reply = Empty })) (sym (calls s at))
         ∙ ap (λ (p : Option Pair). exchanging volume p (record { world = with; reply = Empty })) found in
-        has_effect k new s call told next (exchange-refuses index v stands there s at ∙ ap (option_map plain) passes)
+        has_effect k new s call told next (exchange-refuses user index v calls stands there s at ∙ ap (option_map plain) passes)
         (is ∙ told-effect call (effect k.world s call) of [] does goes refl)
-        (behind ∙ ap (with_exchanged volume pair) (committed-world k index v (ExchangeFiles dir path second_dir second_path) plan there plans between volume stands.id b))
+        (behind ∙ ap (with_exchanged volume pair) (committed-world k index user v (ExchangeFiles dir path second_dir second_path) plan there plans between volume stands.id b))
         (ap (λ (e : Effect). e.world) (sym does))
 
     exchange-fails : (new : KeptWorld) (told : Told) → BecomesKept k index (λ old one. Commits old plan (Err keeper.Failed) one) new → told ≡ refusal_reply MiscErr → RunsRow k number call (with_ok (told, outcome.Fault)) new
     exchange-fails new told b is = λ s at.
-        rw (exchange-refuses index v stands there s at ∙ ap (option_map plain) passes)
-        (commit-fails k index v (ExchangeFiles dir path second_dir second_path) plan there plans new _ told _ volume _ stands.id
+        rw (exchange-refuses user index v calls stands there s at ∙ ap (option_map plain) passes)
+        (commit-fails k index user v (ExchangeFiles dir path second_dir second_path) plan there plans new _ told _ volume _ stands.id
         (ap (λ (r : CallRow). r.committed k.world s) row_is
-        ∙ ap (λ (o : Option VolumeState). keeper_of_edits volume (edits_on o (λ x. call_edits x k.world.latest (ExchangeFiles dir path second_dir second_path)))) (found-at k number volume index v stands there)) is refl b)
+        ∙ ap (λ (o : Option VolumeState). keeper_of_edits volume (edits_on o (λ x. call_edits x (user_of s) k.world.latest (ExchangeFiles dir path second_dir second_path)))) (found-at k number volume index v stands there)
+        ∙ ap (λ (u : ℕ). keeper_of_edits volume (call_edits v u k.world.latest (ExchangeFiles dir path second_dir second_path))) (sym (calls s at))) is refl b)
 
     exchange-ends : (between new : KeptWorld) (answer : Result (Unit {0}) KeeperFault) (result : Result (Told × Outcome) OutOfMemory) → BecomesKept k index (λ old one. Commits old plan answer one) between
         → new ≡ exchanged_behind answer volume pair between → TellsCommitted answer [] result → RunsRow k number call result new
@@ -100,7 +103,7 @@ module _ (k : KeptWorld) (number : ℕ) (call : Call) (volume dir second_dir : �
         (subst (λ (x : Told × Outcome). RunsRow k number call (with_ok x) between) (sym told) (exchange-fails between (refusal_reply MiscErr) b refl))
     exchange-ends between new (Err keeper.Failed) (Err e) b behind told = absurd told
     exchange-ends between new (Err keeper.Memory) (with_ok r) b behind told = absurd told
-    exchange-ends between new (Err keeper.Memory) (Err e) b behind told = behind ∙ commit-memory k index v (ExchangeFiles dir path second_dir second_path) plan there plans between b
+    exchange-ends between new (Err keeper.Memory) (Err e) b behind told = behind ∙ commit-memory k index user v (ExchangeFiles dir path second_dir second_path) plan there plans between b
 
     pub exchange-runs : (new : KeptWorld) (result : Result (Told × Outcome) OutOfMemory) → RunsExchange k index volume pair plan result new → RunsRow k number call result new
     exchange-runs new result runs = exchange-ends runs.between new runs.answer result runs.becomes runs.behind runs.tells

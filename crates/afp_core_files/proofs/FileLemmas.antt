@@ -40,14 +40,14 @@ pub answers-code : (f : PlanFault) (code : Code) (wanted : Result ℕ Code) → 
 answers-code f code wanted is answers = subst (λ (x : PlanFault). Answers (Err x) wanted) is answers
 
 -- the id of the file to which a path leads
-pub created-told : (v : VolumeState) (dir : ℕ) (path : PathValue) (id : NodeId) → found v.rows dir path ≡ Ok id.0 → canonical_reply (Node id) ≡ canonical_reply (open_dir_reply (created_id v dir path))
+pub created-told : (v : VolumeState) (user dir : ℕ) (path : PathValue) (id : NodeId) → found v.rows user dir path ≡ Ok id.0 → canonical_reply (Node id) ≡ canonical_reply (open_dir_reply (created_id v user dir path))
 unfolding created_id
-created-told v dir path id leads = ap (λ (r : Result ℕ Code). canonical_reply (open_dir_reply (done_at r None Some))) (sym leads)
+created-told v user dir path id leads = ap (λ (r : Result ℕ Code). canonical_reply (open_dir_reply (done_at r None Some))) (sym leads)
 
 -- a path that leads nowhere is refused
-pub nowhere-refused : (v : VolumeState) (dir : ℕ) (path : PathValue) (code : Code) → found v.rows dir path ≡ Err code → create_id_refusal v dir path ≡ Some code
+pub nowhere-refused : (v : VolumeState) (user dir : ℕ) (path : PathValue) (code : Code) → found v.rows user dir path ≡ Err code → create_id_refusal v user dir path ≡ Some code
 unfolding create_id_refusal
-nowhere-refused v dir path code leads = rw leads refl
+nowhere-refused v user dir path code leads = rw leads refl
 
 -- what is told of the file of an id
 pub resolved-told : (v : VolumeState) (opens : List Opened) (id bits : ℕ) (before after : List ℕ) → IsSoundVolume v → has_file v.rows id ≡ true
@@ -74,10 +74,10 @@ node-looked rows id looked is = ap is_some is ∙ by rows
         one false rest = rest
 
 -- the bytes of an id, where the file is to be filed
-pub id-bytes : (v : VolumeState) (dir : ℕ) (path : PathValue) (id : NodeId) (bytes : Result (List ℕ) OutOfMemory) → found v.rows dir path ≡ Ok id.0 → IfOk bytes (λ block. block ≡ canonical_reply (Node id))
-    → IfOk bytes (λ block. create_id_refusal v dir path ≡ None → block ≡ canonical_reply (open_dir_reply (created_id v dir path)))
-id-bytes v dir path id (Ok block) leads told = λ passes. told ∙ created-told v dir path id leads
-id-bytes v dir path id (Err e) leads told = tt
+pub id-bytes : (v : VolumeState) (user dir : ℕ) (path : PathValue) (id : NodeId) (bytes : Result (List ℕ) OutOfMemory) → found v.rows user dir path ≡ Ok id.0 → IfOk bytes (λ block. block ≡ canonical_reply (Node id))
+    → IfOk bytes (λ block. create_id_refusal v user dir path ≡ None → block ≡ canonical_reply (open_dir_reply (created_id v user dir path)))
+id-bytes v user dir path id (Ok block) leads told = λ passes. told ∙ created-told v user dir path id leads
+id-bytes v user dir path id (Err e) leads told = tt
 
-pub nowhere-passes : (v : VolumeState) (dir : ℕ) (path : PathValue) (code : Code) (block : List ℕ) → found v.rows dir path ≡ Err code → create_id_refusal v dir path ≡ None → block ≡ canonical_reply (open_dir_reply (created_id v dir path))
-nowhere-passes v dir path code block leads passes = absurd (some-none code (sym (nowhere-refused v dir path code leads) ∙ passes))
+pub nowhere-passes : (v : VolumeState) (user dir : ℕ) (path : PathValue) (code : Code) (block : List ℕ) → found v.rows user dir path ≡ Err code → create_id_refusal v user dir path ≡ None → block ≡ canonical_reply (open_dir_reply (created_id v user dir path))
+nowhere-passes v user dir path code block leads passes = absurd (some-none code (sym (nowhere-refused v user dir path code leads) ∙ passes))

@@ -16,16 +16,16 @@ use Rattle.volume_spec.specs.VolumeCalls as calls
 use Rattle.afp_core_state.specs.RowKinds.{TellsOf}
 use Rattle.afp_core_state.specs.RowKinds.{ChangesVolume}
 
-pub create_id-changes : (volume : VolumeId) (dir : NodeId) (path : PathValue) → ChangesVolume (call.CreateID volume dir path) volume.0 (calls.CreateID dir.0 path) (λ v. open_dir_reply (created_id v dir.0 path))
+pub create_id-changes : (volume : VolumeId) (dir : NodeId) (path : PathValue) → ChangesVolume (call.CreateID volume dir path) volume.0 (calls.CreateID dir.0 path) (λ user v. open_dir_reply (created_id v user dir.0 path))
 unfolding row
 create_id-changes volume dir path = record { row_is = refl; goes_on = refl }
 
-pub delete_id-changes : (volume : VolumeId) (id : NodeId) → ChangesVolume (call.DeleteID volume id) volume.0 (calls.DeleteID id.0) (λ v. replies.Empty)
+pub delete_id-changes : (volume : VolumeId) (id : NodeId) → ChangesVolume (call.DeleteID volume id) volume.0 (calls.DeleteID id.0) (λ user v. replies.Empty)
 unfolding row
 delete_id-changes volume id = record { row_is = refl; goes_on = refl }
 
 pub resolve_id-tells : (volume : VolumeId) (id : NodeId) (bits : ℕ)
-    → TellsOf (call.ResolveID volume id bits) volume.0 (λ w v. resolve_id_refusal v id.0 bits) (λ w v. resolve_id_reply bits (resolve_id_values v (opened_on w volume.0) id.0 bits))
+    → TellsOf (call.ResolveID volume id bits) volume.0 (λ w user v. resolve_id_refusal v user id.0 bits) (λ w user v. resolve_id_reply bits (resolve_id_values v (opened_on w volume.0) id.0 bits))
 unfolding row
 resolve_id-tells volume id bits = record { row_is = refl; goes_on = refl }
 

@@ -11,8 +11,8 @@ use Rattle.volume_spec.specs.SoundVolume.{has_file}
 use Rattle.volume_spec.specs.VolumeState.{VolumeState}
 use Rattle.volume_spec.specs.Walk.{found}
 
-module _ (v : VolumeState) (dir second_dir : ℕ) (path second_path : PathValue) where
-  pub first-found : (code : Code) → found v.rows dir path ≡ Err code → exchange_files_refusal v dir path second_dir second_path ≡ None → ⊥
+module _ (v : VolumeState) (user dir second_dir : ℕ) (path second_path : PathValue) where
+  pub first-found : (code : Code) → found v.rows user dir path ≡ Err code → exchange_files_refusal v user dir path second_dir second_path ≡ None → ⊥
   unfolding exchange_files_refusal
   first-found code leads passes = some-none code (sym (rw leads refl) ∙ passes)
 
@@ -20,10 +20,10 @@ module _ (v : VolumeState) (dir second_dir : ℕ) (path second_path : PathValue)
   second-refused a code true h = some-none ObjectTypeErr h
   second-refused a code false h = some-none code h
 
-  pub second-found : (a : ℕ) (code : Code) → found v.rows dir path ≡ Ok a → found v.rows second_dir second_path ≡ Err code → exchange_files_refusal v dir path second_dir second_path ≡ None → ⊥
+  pub second-found : (a : ℕ) (code : Code) → found v.rows user dir path ≡ Ok a → found v.rows user second_dir second_path ≡ Err code → exchange_files_refusal v user dir path second_dir second_path ≡ None → ⊥
   unfolding exchange_files_refusal
   second-found a code first leads passes = second-refused a code (not (has_file v.rows a)) (sym (rw (first, leads) refl) ∙ passes)
 
-  pub pair-found : (a b : ℕ) → found v.rows dir path ≡ Ok a → found v.rows second_dir second_path ≡ Ok b → exchanged_files v dir path second_dir second_path ≡ Some (record { first = a; second = b })
+  pub pair-found : (a b : ℕ) → found v.rows user dir path ≡ Ok a → found v.rows user second_dir second_path ≡ Ok b → exchanged_files v user dir path second_dir second_path ≡ Some (record { first = a; second = b })
   unfolding exchanged_files
   pair-found a b first second = rw (first, second) refl

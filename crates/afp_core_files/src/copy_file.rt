@@ -4,6 +4,7 @@ ghost use Rattle.afp_calls_grammar.specs.declared.call.Call.{Call};
 ghost use Rattle.afp_core_files.specs.lemma.Copying.{PlansCopy};
 ghost use Rattle.afp_core_state.specs.Running.{RunsRow};
 
+use crate::rights::lacks_read;
 use afp_base::{Bytes, Code, NodeId, OutOfMemory, SessionNumber, VolumeId};
 use afp_core_state::{State, commit_at, latest, refused, told_committed, told_of, whole_at};
 use afp_names::Path;
@@ -33,8 +34,10 @@ pub fn copy_file<K: Keeper>(
     if !state.sessions.has_volume(session, target_volume) {
         return Ok((refused(state.alloc, Code::ParamErr), Outcome::Done));
     }
+    let user = state.user(session);
     let planned = plan_copy(
         state,
+        user,
         index,
         volume,
         dir,
@@ -53,9 +56,10 @@ pub fn copy_file<K: Keeper>(
     }
 }
 
-/// The index of the volume that gets the copy, and the plan of it; or why the copy is refused.
+/// The index of the volume that gets the copy of a user, and the plan of it; or why the copy is refused.
 fn plan_copy<K: Keeper>(
     state: &State<K>,
+    user: u32,
     index: usize,
     volume: VolumeId,
     dir: NodeId,
@@ -66,10 +70,10 @@ fn plan_copy<K: Keeper>(
     new_path: &Path,
 ) -> Result<(usize, Plan), PlanFault>
     requires { index < length state.now.world.volumes }
-    ensures { PlansCopy state.now index (record { volume = volume.0; dir = dir.0; path = path.now; target = target_volume.0; target_dir = target_dir.0; target_path = target_path.now; new_path = new_path.now }) result }
+    ensures { PlansCopy state.now user index (record { volume = volume.0; dir = dir.0; path = path.now; target = target_volume.0; target_dir = target_dir.0; target_path = target_path.now; new_path = new_path.now }) result }
 {
     let whole = whole_at(state, index);
-    let source = match copied_file(state.alloc, whole, dir, path) {
+    let source = match copied_file(state.alloc, whole, user, dir, path) {
         Ok(source) => source,
         Err(fault) => return Err(fault),
     };
@@ -77,13 +81,16 @@ fn plan_copy<K: Keeper>(
         return Err(PlanFault::Code(Code::ParamErr));
     };
     let held = state.forks.is_held(volume, source.id());
+    let denied = lacks_read(whole, user, source.id());
     let to = whole_at(state, target);
     let planned = plan_copy_file(
         state.alloc,
         to,
+        user,
         latest(state),
         &source,
         held,
+        denied,
         target_dir,
         target_path,
         new_path,

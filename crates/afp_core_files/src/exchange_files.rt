@@ -32,9 +32,11 @@ pub fn exchange_files<K: Keeper>(
         return Ok((refused(state.alloc, Code::ParamErr), Outcome::Done));
     };
     let whole = whole_at(state, index);
+    let user = state.user(session);
     let answer = plan_exchange_files(
         state.alloc,
         whole,
+        user,
         latest(state),
         dir,
         path,
@@ -43,31 +45,32 @@ pub fn exchange_files<K: Keeper>(
     );
     match answer {
         Ok(plan) => {
-            let pair = pair_of(state.alloc, whole, dir, path, second_dir, second_path)?;
+            let pair = pair_of(state.alloc, whole, user, dir, path, second_dir, second_path)?;
             exchange(state, index, volume, plan, pair.0, pair.1)
         }
         Err(fault) => told_of(state.alloc, Err(fault), Bytes::new(state.alloc)),
     }
 }
 
-/// The two files to which paths lead, where FPExchangeFiles is not refused.
+/// The two files to which paths lead a user, where FPExchangeFiles is not refused.
 fn pair_of(
     alloc: Global,
     volume: &WholeVolume,
+    user: u32,
     dir: NodeId,
     path: &Path,
     second_dir: NodeId,
     second_path: &Path,
 ) -> Result<(NodeId, NodeId), OutOfMemory>
-    requires { exchange_files_refusal volume.now.state dir.0 path.now second_dir.0 second_path.now ≡ None }
-    ensures { IfOk result (λ pair. exchanged_files volume.now.state dir.0 path.now second_dir.0 second_path.now ≡ Some (record { first = pair.0.0; second = pair.1.0 })) }
+    requires { exchange_files_refusal volume.now.state user dir.0 path.now second_dir.0 second_path.now ≡ None }
+    ensures { IfOk result (λ pair. exchanged_files volume.now.state user dir.0 path.now second_dir.0 second_path.now ≡ Some (record { first = pair.0.0; second = pair.1.0 })) }
 {
-    let first = match volume.resolve(alloc, dir, path) {
+    let first = match volume.resolve(alloc, user, dir, path) {
         Ok(first) => first,
         Err(PlanFault::Code(_code)) => unreachable!(),
         Err(PlanFault::Memory) => return Err(OutOfMemory),
     };
-    match volume.resolve(alloc, second_dir, second_path) {
+    match volume.resolve(alloc, user, second_dir, second_path) {
         Ok(second) => Ok((first, second)),
         Err(PlanFault::Code(_code)) => unreachable!(),
         Err(PlanFault::Memory) => Err(OutOfMemory),

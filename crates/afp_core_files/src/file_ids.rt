@@ -15,6 +15,7 @@ ghost use Rattle.volume_tree.specs.Answered.{Refuses};
 ghost use Rattle.volume_tree.specs.Shown.{opened};
 ghost use Rattle.afp_core_state.specs.Running.{RunsRow};
 
+use crate::rights::lacks_read;
 use afp_base::{Bytes, Code, NodeId, OutOfMemory, SessionNumber, VolumeId};
 use afp_bitmap::{FileBits, is_outside};
 use afp_core_state::{State, latest, refused, run_plan, told_of, whole_at};
@@ -43,21 +44,23 @@ pub fn create_id<K: Keeper>(
         return Ok((refused(state.alloc, Code::ParamErr), Outcome::Done));
     };
     let whole = whole_at(state, index);
-    let block = id_block(state.alloc, whole, dir, path)?;
-    let answer = plan_create_id(state.alloc, whole, latest(state), dir, path);
+    let user = state.user(session);
+    let block = id_block(state.alloc, whole, user, dir, path)?;
+    let answer = plan_create_id(state.alloc, whole, user, latest(state), dir, path);
     run_plan(state, index, answer, block)
 }
 
-/// The bytes of the id of the file to which a path leads.
+/// The bytes of the id of the file to which a path leads a user.
 fn id_block(
     alloc: Global,
     volume: &WholeVolume,
+    user: u32,
     dir: NodeId,
     path: &Path,
 ) -> Result<Bytes, OutOfMemory>
-    ensures { IfOk result (λ block. create_id_refusal volume.now.state dir.0 path.now ≡ None → block ≡ canonical_reply (open_dir_reply (created_id volume.now.state dir.0 path.now))) }
+    ensures { IfOk result (λ block. create_id_refusal volume.now.state user dir.0 path.now ≡ None → block ≡ canonical_reply (open_dir_reply (created_id volume.now.state user dir.0 path.now))) }
 {
-    match volume.resolve(alloc, dir, path) {
+    match volume.resolve(alloc, user, dir, path) {
         Ok(id) => node_block(alloc, id),
         Err(PlanFault::Code(_code)) => Ok(Bytes::new(alloc)),
         Err(PlanFault::Memory) => Err(OutOfMemory),
@@ -86,7 +89,7 @@ pub fn delete_id<K: Keeper>(
         return Ok((refused(state.alloc, Code::ParamErr), Outcome::Done));
     };
     let whole = whole_at(state, index);
-    let answer = plan_delete_id(state.alloc, whole, latest(state), id);
+    let answer = plan_delete_id(state.alloc, whole, state.user(session), latest(state), id);
     let nothing = Bytes::new(state.alloc);
     run_plan(state, index, answer, nothing)
 }
@@ -107,7 +110,8 @@ pub fn resolve_id<K: Keeper>(
     let mut block = Bytes::new(state.alloc);
     let opens = state.forks.on(volume);
     let kept = state.kept_at(index);
-    let answer = put_resolved(state.alloc, kept, &opens, id, bits, &mut block);
+    let user = state.user(session);
+    let answer = put_resolved(state.alloc, kept, user, &opens, id, bits, &mut block);
     told_of(state.alloc, answer, block)
 }
 
@@ -140,17 +144,18 @@ fn put_params<K: Keeper>(
     kept.file_params(alloc, file, opens, bits, out)
 }
 
-/// Appends what is told of the file of an id, or tells why nothing is. An error changes nothing.
+/// Appends what a user is told of the file of an id, or tells why nothing is. An error changes nothing.
 #[tactic(auto, unfolding(volume_spec::specs::FileIds::resolve_id_refusal))]
 fn put_resolved<K: Keeper>(
     alloc: Global,
     kept: &KeptVolume<K>,
+    user: u32,
     opens: &VolumeOpens<'_>,
     id: NodeId,
     bits: u16,
     out: &mut Bytes,
 ) -> Result<(), PlanFault>
-    ensures refused { Refuses result (resolve_id_refusal kept.now.state id.0 bits) }
+    ensures refused { Refuses result (resolve_id_refusal kept.now.state user id.0 bits) }
     ensures ok { OnOk result (out.new ≡ out.old ++ canonical_reply (resolve_id_reply bits (resolve_id_values kept.now.state (opened opens.now) id.0 bits))) }
     ensures err { OnErr result (out.new ≡ out.old) }
 {
@@ -167,6 +172,9 @@ fn put_resolved<K: Keeper>(
     }
     if !kept.has_file(id) {
         return Err(PlanFault::Code(Code::ObjectTypeErr));
+    }
+    if lacks_read(volume, user, id) {
+        return Err(PlanFault::Code(Code::AccessDenied));
     }
     let before = out.as_slice().len();
     match put_params(alloc, kept, opens, id, bits, out) {

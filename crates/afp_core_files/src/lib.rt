@@ -4,3 +4,4 @@
 pub mod copy_file;
 pub mod exchange_files;
 pub mod file_ids;
+mod rights;

@@ -16,7 +16,7 @@ use Rattle.afp_replies.specs.declared.reply.Reply.TheVariants.{Opened}
 use Rattle.afp_calls_grammar.specs.declared.call.Call.{Call}
 use Rattle.afp_calls_grammar.specs.declared.call.Call.TheVariants as call
 use Rattle.afp_serial.specs.Answer.{link_number, refusal_reply, new_session}
-use Rattle.afp_serial.specs.World.{Effect, Refusal, Refused, CallRow, plain, refused_before, has_opened, is_open, volume_at, World, Session, OpenFork}
+use Rattle.afp_serial.specs.World.{Effect, Refusal, Refused, CallRow, plain, refused_before, has_opened, is_open, user_of, volume_at, World, Session, OpenFork}
 use Rattle.afp_serial.specs.Fork.{OpenAsked, access_of, denied_of, file_asked, fork_in, fork_ref, has_most_forks, is_denied, lowest_free, new_fork, opened_reply, opens_asked, opens_fork, with_fork, with_open}
 use Rattle.afp_serial.specs.OnVolume.{opened_on, refused_on}
 use Rattle.afp_serial.specs.Rows.{effect, ends_session, refusal, row}
@@ -27,7 +27,7 @@ use Rattle.volume_spec.specs.OpenFork.{fork_values, is_resource, open_fork_file,
 use Rattle.volume_spec.specs.Shared.{first_or}
 use Rattle.volume_spec.specs.VolumeState.{Row as File, VolumeState}
 use Rattle.volume_spec.specs.Walk.{row_at}
-use Rattle.afp_core_state.specs.OnVolumes.{IsOpen, IsOpenAt}
+use Rattle.afp_core_state.specs.OnVolumes.{IsOpen, IsOpenAt, IsUser}
 use Rattle.afp_core_forks.specs.lemma.Opening.{FindsFile}
 use Rattle.afp_core_state.specs.KeptWorld.{KeptWorld}
 use Rattle.afp_core_state.specs.lemma.KeptWorld.{with_forks}
@@ -57,34 +57,35 @@ pub record OpensAsked (call : Call) (asked : OpenAsked) (dir : ℕ) (path : Path
   pub goes_on : ends_session call ≡ false
 
 module _ (k : KeptWorld) (number : ℕ) (call : Call) (asked : OpenAsked) (dir : ℕ) (path : PathValue) (opens : OpensAsked call asked dir path) where
-  abbrev pub refuses : VolumeState → Option Code
-  refuses v = open_fork_refusal v asked.bits asked.access.write dir path
+  abbrev pub refuses : ℕ → VolumeState → Option Code
+  refuses user v = open_fork_refusal v user asked.bits asked.access.read asked.access.write dir path
 
   pub opens-unopened : (told : Told) → IsOpen k number asked.volume None → told ≡ refusal_reply ParamErr → RunsRow k number call (with_ok (done told)) k
   opens-unopened told stands tells = λ s at.
       is_refused-with k k s call (plain ParamErr) told
       (ap (λ (r : CallRow). first_holding (r.refusals k.world s)) opens.row_is
-      ∙ first-before (not (has_opened s asked.volume)) (plain ParamErr) (refused_before (refused_on (volume_at k.world.volumes asked.volume) refuses) [])
-      (refused_before (refused_on (volume_at k.world.volumes asked.volume) refuses) (denied_of k.world s asked (file_asked (volume_at k.world.volumes asked.volume) dir path)))
-      (plain ParamErr) (stands s at refuses)
-      (before-more (refused_on (volume_at k.world.volumes asked.volume) refuses) _ (plain ParamErr))) tells refl
+      ∙ first-before (not (has_opened s asked.volume)) (plain ParamErr) (refused_before (refused_on (volume_at k.world.volumes asked.volume) (refuses (user_of s))) [])
+      (refused_before (refused_on (volume_at k.world.volumes asked.volume) (refuses (user_of s))) (denied_of k.world s asked (file_asked (volume_at k.world.volumes asked.volume) (user_of s) dir path)))
+      (plain ParamErr) (stands s at (refuses (user_of s)))
+      (before-more (refused_on (volume_at k.world.volumes asked.volume) (refuses (user_of s))) _ (plain ParamErr))) tells refl
 
-  module _ (index : ℕ) (v : VolumeState) (stands : IsOpenAt k number asked.volume index) (there : slice_get k.world.volumes index ≡ Some v) where
+  module _ (user index : ℕ) (v : VolumeState) (calls : IsUser k number user) (stands : IsOpenAt k number asked.volume index) (there : slice_get k.world.volumes index ≡ Some v) where
     on-opened : (s : Session) → session_of k.world.sessions number ≡ Some s
-        → refusal k.world s call ≡ first_holding (refused_before (refuses v) (denied_of k.world s asked (open_fork_file v dir path)))
+        → refusal k.world s call ≡ first_holding (refused_before (refuses user v) (denied_of k.world s asked (open_fork_file v user dir path)))
     on-opened s at =
         ap (λ (r : CallRow). first_holding (r.refusals k.world s)) opens.row_is
         ∙ ap (λ b. first_holding ((not b, plain ParamErr)
-        ∷ refused_before (refused_on (volume_at k.world.volumes asked.volume) refuses) (denied_of k.world s asked (file_asked (volume_at k.world.volumes asked.volume) dir path)))) (stands.opened s at)
-        ∙ ap (λ (o : Option VolumeState). first_holding (refused_before (refused_on o refuses) (denied_of k.world s asked (file_asked o dir path)))) (found-at k number asked.volume index v stands there)
+        ∷ refused_before (refused_on (volume_at k.world.volumes asked.volume) (refuses (user_of s))) (denied_of k.world s asked (file_asked (volume_at k.world.volumes asked.volume) (user_of s) dir path)))) (stands.opened s at)
+        ∙ ap (λ (o : Option VolumeState). first_holding (refused_before (refused_on o (refuses (user_of s))) (denied_of k.world s asked (file_asked o (user_of s) dir path)))) (found-at k number asked.volume index v stands there)
+        ∙ ap (λ (u : ℕ). first_holding (refused_before (refuses u v) (denied_of k.world s asked (open_fork_file v u dir path)))) (sym (calls s at))
 
-    pub opens-refused : (code : Code) (told : Told) → refuses v ≡ Some code → told ≡ refusal_reply code → RunsRow k number call (with_ok (done told)) k
+    pub opens-refused : (code : Code) (told : Told) → refuses user v ≡ Some code → told ≡ refusal_reply code → RunsRow k number call (with_ok (done told)) k
     opens-refused code told refused tells = λ s at.
         is_refused-with k k s call (plain code) told
-        (on-opened s at ∙ ap (λ (o : Option Code). first_holding (refused_before o (denied_of k.world s asked (open_fork_file v dir path)))) refused) tells refl
+        (on-opened s at ∙ ap (λ (o : Option Code). first_holding (refused_before o (denied_of k.world s asked (open_fork_file v user dir path)))) refused) tells refl
 
     -- what is left of the row where the volume refuses nothing
-    pub finds-file : (file : File) (fork : Fork) (access : Access) (bits : ℕ) → refuses v ≡ None → open_fork_file v dir path ≡ row_at v.rows fork.node → row_at v.rows fork.node ≡ Some file → file.id ≡ fork.node
+    pub finds-file : (file : File) (fork : Fork) (access : Access) (bits : ℕ) → refuses user v ≡ None → open_fork_file v user dir path ≡ row_at v.rows fork.node → row_at v.rows fork.node ≡ Some file → file.id ≡ fork.node
         → asked.volume ≡ fork.volume → asked.resource ≡ fork.resource → asked.access ≡ access → asked.bits ≡ bits → FindsFile k number call asked index fork access bits
     finds-file file fork access bits passes finds found node_is volume_is resource_is access_is bits_are = record {
       volume = v;
@@ -97,11 +98,12 @@ module _ (k : KeptWorld) (number : ℕ) (call : Call) (asked : OpenAsked) (dir :
       access_is = access_is;
       bits_are = bits_are;
       refuses = λ s at.
-          on-opened s at ∙ ap (λ (o : Option Code). first_holding (refused_before o (denied_of k.world s asked (open_fork_file v dir path)))) passes
+          on-opened s at ∙ ap (λ (o : Option Code). first_holding (refused_before o (denied_of k.world s asked (open_fork_file v user dir path)))) passes
           ∙ ap (λ (o : Option File). first_holding (denied_of k.world s asked o)) (finds ∙ found);
       does = λ s at.
           ap (λ (r : CallRow). r.effect k.world s) opens.row_is
-          ∙ ap (λ (o : Option VolumeState). opens_fork k.world s asked (file_asked o dir path)) (found-at k number asked.volume index v stands there)
+          ∙ ap (λ (o : Option VolumeState). opens_fork k.world s asked (file_asked o (user_of s) dir path)) (found-at k number asked.volume index v stands there)
+          ∙ ap (λ (u : ℕ). opens_fork k.world s asked (open_fork_file v u dir path)) (sym (calls s at))
           ∙ ap (λ (o : Option File). opens_fork k.world s asked o) (finds ∙ found);
       goes_on = opens.goes_on;
     }
@@ -217,9 +219,9 @@ unfolding row
 open_fork-opens flag volume dir bits mode path = record { row_is = refl; goes_on = refl }
 
 -- where nothing is refused, the bits ask for no more than a file has
-pub bits-within : (v : VolumeState) (bits : ℕ) (writes : Bool) (dir : ℕ) (path : PathValue) → open_fork_refusal v bits writes dir path ≡ None → is_outside file_mask bits ≡ false
+pub bits-within : (v : VolumeState) (user bits : ℕ) (reads writes : Bool) (dir : ℕ) (path : PathValue) → open_fork_refusal v user bits reads writes dir path ≡ None → is_outside file_mask bits ≡ false
 unfolding open_fork_refusal
-bits-within v bits writes dir path none = by (is_outside file_mask bits) _ none
+bits-within v user bits reads writes dir path none = by (is_outside file_mask bits) _ none
   where
     by : (b : Bool) (rest : Option Code) → first_or ((b, BitmapErr) ∷ []) rest ≡ None → b ≡ false
     by true rest h = absurd (cc h)
@@ -231,20 +233,20 @@ some-row None n h = absurd (cc h)
 some-row (Some file) n h = (file, refl, cc h)
 
 -- the call on a volume that the session has open
-module _ (k : KeptWorld) (number flag : ℕ) (volume : VolumeId) (dir : NodeId) (bits mode : ℕ) (path : PathValue) (index : ℕ) (v : VolumeState) (stands : IsOpenAt k number volume.0 index)
+module _ (k : KeptWorld) (number flag : ℕ) (volume : VolumeId) (dir : NodeId) (bits mode : ℕ) (path : PathValue) (user index : ℕ) (v : VolumeState) (calls : IsUser k number user) (stands : IsOpenAt k number volume.0 index)
     (there : slice_get k.world.volumes index ≡ Some v) (access : Access) (access_is : access ≡ access_of mode) where
-  pub open-refused : (code : Code) (told : Told) → open_fork_refusal v bits access.write dir.0 path ≡ Some code → told ≡ refusal_reply code
+  pub open-refused : (code : Code) (told : Told) → open_fork_refusal v user bits access.read access.write dir.0 path ≡ Some code → told ≡ refusal_reply code
       → RunsRow k number (call.OpenFork flag volume dir bits mode path) (with_ok (done told)) k
   open-refused code told refused tells =
-      opens-refused k number (call.OpenFork flag volume dir bits mode path) _ dir.0 path (open_fork-opens flag volume dir bits mode path) index v stands there code told
-      (ap (λ (a : Access). open_fork_refusal v bits a.write dir.0 path) (sym access_is) ∙ refused) tells
+      opens-refused k number (call.OpenFork flag volume dir bits mode path) _ dir.0 path (open_fork-opens flag volume dir bits mode path) user index v calls stands there code told
+      (ap (λ (a : Access). open_fork_refusal v user bits a.read a.write dir.0 path) (sym access_is) ∙ refused) tells
 
-  pub open-finds : (node : NodeId) (resource : Bool) → resource ≡ is_resource flag → open_fork_refusal v bits access.write dir.0 path ≡ None → open_fork_file v dir.0 path ≡ row_at v.rows node.0
-      → option_map (λ (file : File). file.id) (open_fork_file v dir.0 path) ≡ Some node.0
+  pub open-finds : (node : NodeId) (resource : Bool) → resource ≡ is_resource flag → open_fork_refusal v user bits access.read access.write dir.0 path ≡ None → open_fork_file v user dir.0 path ≡ row_at v.rows node.0
+      → option_map (λ (file : File). file.id) (open_fork_file v user dir.0 path) ≡ Some node.0
       → FindsFile k number (call.OpenFork flag volume dir bits mode path) (record { volume = volume.0; bits = bits; resource = is_resource flag; access = access_of mode }) index
       (record { volume = volume.0; node = node.0; resource = resource }) access bits
   open-finds node resource resource_is passes finds id =
-      let file = some-row (open_fork_file v dir.0 path) node.0 id in
-      finds-file k number (call.OpenFork flag volume dir bits mode path) _ dir.0 path (open_fork-opens flag volume dir bits mode path) index v stands there file.0
+      let file = some-row (open_fork_file v user dir.0 path) node.0 id in
+      finds-file k number (call.OpenFork flag volume dir bits mode path) _ dir.0 path (open_fork-opens flag volume dir bits mode path) user index v calls stands there file.0
       (record { volume = volume.0; node = node.0; resource = resource }) access bits
-      (ap (λ (a : Access). open_fork_refusal v bits a.write dir.0 path) (sym access_is) ∙ passes) finds (sym finds ∙ file.1) file.2 refl (sym resource_is) (sym access_is) refl
+      (ap (λ (a : Access). open_fork_refusal v user bits a.read a.write dir.0 path) (sym access_is) ∙ passes) finds (sym finds ∙ file.1) file.2 refl (sym resource_is) (sym access_is) refl

@@ -59,9 +59,15 @@ pub fn open_fork<K: Keeper>(
     };
     let resource = is_resource(flag);
     let mode = access_of(mode);
-    let found = state
-        .kept_at(index)
-        .open_fork(state.alloc, bits, mode.write, dir, path);
+    let found = state.kept_at(index).open_fork(
+        state.alloc,
+        state.user(session),
+        bits,
+        mode.read,
+        mode.write,
+        dir,
+        path,
+    );
     match found {
         Ok(node) => {
             let fork = ForkKey {

@@ -1,6 +1,6 @@
 -- Calls on a volume that the session has open: what they share.
 use Rattle.std.proofs.Common.{◌≡◌, ◌∙◌, ap, sym, refl, subst, ℕ, zero, suc, ◌+◌, ◌<◌, Bool, true, false, not, List, [], ◌∷◌, length, Option, Some, None, is_some, arith, add-one}
-use Rattle.std.specs.Prelude.{IfSome, MatchOption, option_map, slice_get, slice_set}
+use Rattle.std.specs.Prelude.{IfSome, MatchOption, option_map, slice_get, slice_set, unwrap_or}
 use Rattle.std.proofs.lemmas.Option.{same_Some}
 use Rattle.afp_base.proofs.Facts.{some-none}
 use Rattle.afp_base.specs.Choice.{first_holding}
@@ -9,15 +9,15 @@ use Rattle.afp_base.specs.declared.code.Code.TheVariants.{Ok, ParamErr}
 use Rattle.afp_replies.specs.Replies.{canonical_reply}
 use Rattle.afp_calls_grammar.specs.declared.call.Call.{Call}
 use Rattle.afp_serial.specs.Answer.{effect_reply}
-use Rattle.afp_serial.specs.World.{Effect, plain, refused_before, has_opened, volume_at, World, Session}
+use Rattle.afp_serial.specs.World.{Effect, plain, refused_before, has_opened, user_of, volume_at, World, Session}
 use Rattle.afp_serial.specs.OnVolume.{keeper_of, on_volume, with_state}
 use Rattle.afp_serial.specs.Rows.{ends_session}
 use Rattle.afp_serial.specs.declared.ask.Outcome.TheVariants as outcome
 use Rattle.afp_serial.specs.declared.ask.Told.{Told}
 use Rattle.afp_serial.specs.declared.ask.Told.TheVariants.{Reply}
-use Rattle.volume_spec.specs.VolumeState.{VolumeState}
+use Rattle.volume_spec.specs.VolumeState.{VolumeState, guest}
 use Rattle.afp_core_state.specs.KeeperFaults.{KeepersRise, SureStand}
-use Rattle.afp_core_state.specs.OnVolumes.{BecomesKept, IsKeptAt, IsOpen, IsOpenAt, with_kept}
+use Rattle.afp_core_state.specs.OnVolumes.{BecomesKept, IsKeptAt, IsOpen, IsOpenAt, IsUser, with_kept}
 use Rattle.afp_core_state.specs.KeptWorld.{KeptWorld}
 use Rattle.session_table.specs.Sessions.{session_of}
 use Rattle.afp_core_state.specs.Running.{IsOutcomeOf}
@@ -68,6 +68,13 @@ pub index-opens : (k : KeptWorld) (number volume : ℕ) (found : Option ℕ) →
     → ((s : Session) → session_of k.world.sessions number ≡ Some s → has_opened s volume ≡ true) → IsOpen k number volume found
 index-opens k number volume None is opened = λ s at refuses. refused-unfound k.world s volume refuses is
 index-opens k number volume (Some index) is opened = record { id = is.0; within = is.1; opened = opened }
+
+-- the user for whom the session of a number calls
+abbrev pub user-in : KeptWorld → ℕ → ℕ
+user-in k number = unwrap_or (option_map user_of (session_of k.world.sessions number)) guest
+
+pub is-user : (k : KeptWorld) (number : ℕ) → IsUser k number (user-in k number)
+is-user k number = λ s at. ap (λ (o : Option Session). unwrap_or (option_map user_of o) guest) at
 
 -- it is as the volume refuses
 pub refused-on : (w : World) (s : Session) (volume : ℕ) (v : VolumeState) (refuses : VolumeState → Option Code) → has_opened s volume ≡ true → volume_at w.volumes volume ≡ Some v

@@ -9,7 +9,7 @@ use Rattle.afp_replies.specs.Replies.{canonical_reply}
 use Rattle.afp_replies.specs.declared.reply.Reply.{Reply as AfpReply}
 use Rattle.afp_calls_grammar.specs.declared.call.Call.{Call}
 use Rattle.afp_serial.specs.Answer.{refusal_reply}
-use Rattle.afp_serial.specs.World.{Effect, CallRow, plain, World, Session}
+use Rattle.afp_serial.specs.World.{Effect, CallRow, plain, user_of, World, Session}
 use Rattle.afp_serial.specs.OnVolume.{done_on}
 use Rattle.afp_serial.specs.Rows.{effect, refusal}
 use Rattle.afp_serial.specs.declared.ask.Outcome.{Outcome}
@@ -17,7 +17,7 @@ use Rattle.afp_serial.specs.declared.ask.Told.{Told}
 use Rattle.afp_serial.specs.declared.ask.Told.TheVariants.{Reply}
 use Rattle.volume_spec.specs.VolumeState.{VolumeState}
 use Rattle.afp_core_state.specs.RowKinds.{TellsOf}
-use Rattle.afp_core_state.specs.OnVolumes.{IsOpen, IsOpenAt}
+use Rattle.afp_core_state.specs.OnVolumes.{IsOpen, IsOpenAt, IsUser}
 use Rattle.afp_core_state.specs.Replies.{Tells}
 use Rattle.afp_core_state.specs.KeptWorld.{KeptWorld}
 use Rattle.session_table.specs.Sessions.{session_of}
@@ -29,41 +29,43 @@ use Rattle.volume_tree.specs.declared.resolve.PlanFault.TheVariants as fault
 use Rattle.afp_core_state.proofs.OnVolumeLemmas.{found-at, refused-on, told-effect}
 
 -- a call that tells something of a volume
-module _ (k : KeptWorld) (number : ℕ) (call : Call) (volume : ℕ) (refuses : World → VolumeState → Option Code) (reply : World → VolumeState → AfpReply) (tells : TellsOf call volume refuses reply) where
+module _ (k : KeptWorld) (number : ℕ) (call : Call) (volume : ℕ) (refuses : World → ℕ → VolumeState → Option Code) (reply : World → ℕ → VolumeState → AfpReply) (tells : TellsOf call volume refuses reply) where
   pub tells-unopened : (told : Told) → IsOpen k number volume None → told ≡ refusal_reply ParamErr → RunsRow k number call (with_ok (done told)) k
   tells-unopened told stands is = λ s at.
-      is_refused k k s call ParamErr told (ap (λ (r : CallRow). first_holding (r.refusals k.world s)) tells.row_is ∙ stands s at (refuses k.world)) is refl
+      is_refused k k s call ParamErr told (ap (λ (r : CallRow). first_holding (r.refusals k.world s)) tells.row_is ∙ stands s at (refuses k.world (user_of s))) is refl
 
-  tells-refuses : (index : ℕ) (v : VolumeState) → IsOpenAt k number volume index → slice_get k.world.volumes index ≡ Some v → (s : Session) → session_of k.world.sessions number ≡ Some s
-      → refusal k.world s call ≡ option_map plain (refuses k.world v)
-  tells-refuses index v stands there s at =
+  tells-refuses : (user index : ℕ) (v : VolumeState) → IsUser k number user → IsOpenAt k number volume index → slice_get k.world.volumes index ≡ Some v → (s : Session) → session_of k.world.sessions number ≡ Some s
+      → refusal k.world s call ≡ option_map plain (refuses k.world user v)
+  tells-refuses user index v calls stands there s at =
       ap (λ (r : CallRow). first_holding (r.refusals k.world s)) tells.row_is
-      ∙ refused-on k.world s volume v (refuses k.world) (stands.opened s at) (found-at k number volume index v stands there)
+      ∙ refused-on k.world s volume v (refuses k.world (user_of s)) (stands.opened s at) (found-at k number volume index v stands there)
+      ∙ ap (λ (u : ℕ). option_map plain (refuses k.world u v)) (sym (calls s at))
 
-  pub tells-refused : (index : ℕ) (v : VolumeState) (code : Code) (told : Told) → IsOpenAt k number volume index → slice_get k.world.volumes index ≡ Some v → refuses k.world v ≡ Some code
+  pub tells-refused : (user index : ℕ) (v : VolumeState) (code : Code) (told : Told) → IsUser k number user → IsOpenAt k number volume index → slice_get k.world.volumes index ≡ Some v → refuses k.world user v ≡ Some code
       → told ≡ refusal_reply code → RunsRow k number call (with_ok (done told)) k
-  tells-refused index v code told stands there refused is = λ s at.
-      is_refused k k s call code told (tells-refuses index v stands there s at ∙ ap (option_map plain) refused) is refl
+  tells-refused user index v code told calls stands there refused is = λ s at.
+      is_refused k k s call code told (tells-refuses user index v calls stands there s at ∙ ap (option_map plain) refused) is refl
 
-  pub tells-done : (index : ℕ) (v : VolumeState) (block : List ℕ) (told : Told) → IsOpenAt k number volume index → slice_get k.world.volumes index ≡ Some v → refuses k.world v ≡ None
-      → block ≡ canonical_reply (reply k.world v) → told ≡ Reply Ok block false → RunsRow k number call (with_ok (done told)) k
-  tells-done index v block told stands there passes bytes is = λ s at.
-      let of : Effect = record { world = k.world; reply = reply k.world v } in
+  pub tells-done : (user index : ℕ) (v : VolumeState) (block : List ℕ) (told : Told) → IsUser k number user → IsOpenAt k number volume index → slice_get k.world.volumes index ≡ Some v → refuses k.world user v ≡ None
+      → block ≡ canonical_reply (reply k.world user v) → told ≡ Reply Ok block false → RunsRow k number call (with_ok (done told)) k
+  tells-done user index v block told calls stands there passes bytes is = λ s at.
+      let of : Effect = record { world = k.world; reply = reply k.world user v } in
       let does : effect k.world s call ≡ of =
       ap (λ (r : CallRow). r.effect k.world s) tells.row_is
-      ∙ ap (λ (o : Option VolumeState). done_on o k.world (λ x. record { world = k.world; reply = reply k.world x })) (found-at k number volume index v stands there) in
-      has_effect k k s call told k.world (tells-refuses index v stands there s at ∙ ap (option_map plain) passes)
+      ∙ ap (λ (o : Option VolumeState). done_on o k.world (λ x. record { world = k.world; reply = reply k.world (user_of s) x })) (found-at k number volume index v stands there)
+      ∙ ap (λ (u : ℕ). record { world = k.world; reply = reply k.world u v }) (sym (calls s at)) in
+      has_effect k k s call told k.world (tells-refuses user index v calls stands there s at ∙ ap (option_map plain) passes)
       (is ∙ told-effect call (effect k.world s call) of block does tells.goes_on bytes) refl (ap (λ (e : Effect). e.world) (sym does))
 
-  pub tells-runs : (index : ℕ) (v : VolumeState) (code : Option Code) (shown : AfpReply) (answer : Result (Unit {0}) PlanFault) (before block : List ℕ) (result : Result (Told × Outcome) OutOfMemory)
-      → IsOpenAt k number volume index → slice_get k.world.volumes index ≡ Some v → refuses k.world v ≡ code → reply k.world v ≡ shown → Refuses answer code
+  pub tells-runs : (user index : ℕ) (v : VolumeState) (code : Option Code) (shown : AfpReply) (answer : Result (Unit {0}) PlanFault) (before block : List ℕ) (result : Result (Told × Outcome) OutOfMemory)
+      → IsUser k number user → IsOpenAt k number volume index → slice_get k.world.volumes index ≡ Some v → refuses k.world user v ≡ code → reply k.world user v ≡ shown → Refuses answer code
       → before ≡ [] → OnOk answer (block ≡ before ++ canonical_reply shown) → Tells answer block result → RunsRow k number call result k
-  tells-runs index v code shown (with_ok read) before block (with_ok r) stands there refuse show refused none bytes told =
+  tells-runs user index v code shown (with_ok read) before block (with_ok r) calls stands there refuse show refused none bytes told =
       subst (λ (x : Told × Outcome). RunsRow k number call (with_ok x) k) (sym told)
-      (tells-done index v block (Reply Ok block false) stands there (refuse ∙ refused) (bytes ∙ ap (λ (l : List ℕ). l ++ canonical_reply shown) none ∙ ap canonical_reply (sym show)) refl)
-  tells-runs index v code shown (with_ok read) before block (Err e) stands there refuse show refused none bytes told = absurd told
-  tells-runs index v code shown (Err (fault.Code c)) before block (with_ok r) stands there refuse show refused none bytes told =
-      subst (λ (x : Told × Outcome). RunsRow k number call (with_ok x) k) (sym told) (tells-refused index v c (refusal_reply c) stands there (refuse ∙ refused) refl)
-  tells-runs index v code shown (Err (fault.Code c)) before block (Err e) stands there refuse show refused none bytes told = absurd told
-  tells-runs index v code shown (Err fault.Memory) before block (with_ok r) stands there refuse show refused none bytes told = absurd told
-  tells-runs index v code shown (Err fault.Memory) before block (Err e) stands there refuse show refused none bytes told = refl
+      (tells-done user index v block (Reply Ok block false) calls stands there (refuse ∙ refused) (bytes ∙ ap (λ (l : List ℕ). l ++ canonical_reply shown) none ∙ ap canonical_reply (sym show)) refl)
+  tells-runs user index v code shown (with_ok read) before block (Err e) calls stands there refuse show refused none bytes told = absurd told
+  tells-runs user index v code shown (Err (fault.Code c)) before block (with_ok r) calls stands there refuse show refused none bytes told =
+      subst (λ (x : Told × Outcome). RunsRow k number call (with_ok x) k) (sym told) (tells-refused user index v c (refusal_reply c) calls stands there (refuse ∙ refused) refl)
+  tells-runs user index v code shown (Err (fault.Code c)) before block (Err e) calls stands there refuse show refused none bytes told = absurd told
+  tells-runs user index v code shown (Err fault.Memory) before block (with_ok r) calls stands there refuse show refused none bytes told = absurd told
+  tells-runs user index v code shown (Err fault.Memory) before block (Err e) calls stands there refuse show refused none bytes told = refl

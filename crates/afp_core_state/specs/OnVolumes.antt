@@ -1,11 +1,11 @@
--- Volumes by their places, beside their keepers: which of them a session has open, and what becomes of one (this profile).
+-- Volumes by their places, beside their keepers: which of them a session has open, for which user it calls, and what becomes of one (this profile).
 use Rattle.std.specs.Prelude.{◌≡◌, ◌<◌, ◌+◌, ℕ, true, length, Option, Some, None, slice_get, slice_set}
 use Rattle.afp_base.specs.Choice.{first_holding}
 use Rattle.afp_base.specs.declared.code.Code.{Code}
 use Rattle.afp_base.specs.declared.code.Code.TheVariants as code
 use Rattle.afp_core_state.specs.KeptWorld.{KeptWorld}
 use Rattle.session_table.specs.Sessions.{session_of}
-use Rattle.afp_serial.specs.World.{plain, has_opened, Session}
+use Rattle.afp_serial.specs.World.{plain, has_opened, user_of, Session}
 use Rattle.afp_serial.specs.OnVolume.{on_volume}
 use Rattle.volume_spec.specs.VolumeState.{VolumeState}
 use Rattle.volume_keeper_commit.specs.Kept.{KeptState}
@@ -23,6 +23,10 @@ IsOpen k number volume None =
     (s : Session) → session_of k.world.sessions number ≡ Some s → (refuses : VolumeState → Option Code)
     → first_holding (on_volume k.world s volume refuses) ≡ Some (plain code.ParamErr)
 IsOpen k number volume (Some index) = IsOpenAt k number volume index
+
+-- the user for whom the session of this number calls
+abbrev pub IsUser : KeptWorld → ℕ → ℕ → Type 0
+IsUser k number user = (s : Session) → session_of k.world.sessions number ≡ Some s → user ≡ user_of s
 
 -- the volume at an index, with its keeper's count, whether the keeper is sure, and how many of its settles went well
 pub record IsKeptAt (k : KeptWorld) (index : ℕ) (one : KeptState) : Type 0 where

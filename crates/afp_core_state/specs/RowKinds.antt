@@ -7,12 +7,12 @@ use Rattle.afp_replies.specs.declared.reply.Reply.{Reply}
 use Rattle.afp_serial.specs.Rows.{ends_session, row}
 use Rattle.afp_serial.specs.OnVolume.{tells_of}
 use Rattle.afp_serial.specs.VolumeRows.{changes_volume}
-use Rattle.afp_serial.specs.World.{World}
+use Rattle.afp_serial.specs.World.{World, user_of}
 use Rattle.volume_spec.specs.VolumeCalls.{VolumeCall}
 use Rattle.volume_spec.specs.VolumeState.{VolumeState}
 
--- the call's row is this change of the volume, and its session goes on
-pub record ChangesVolume (call : Call) (volume : ℕ) (asked : VolumeCall) (reply : VolumeState → Reply) : Type 0 where
+-- the call's row is this change of the volume, with this reply to a user, and its session goes on
+pub record ChangesVolume (call : Call) (volume : ℕ) (asked : VolumeCall) (reply : ℕ → VolumeState → Reply) : Type 0 where
   pub row_is : row call ≡ changes_volume volume asked reply
   pub goes_on : ends_session call ≡ false
 
@@ -20,7 +20,7 @@ pub record ChangesVolume (call : Call) (volume : ℕ) (asked : VolumeCall) (repl
 abbrev pub IsToldWhereDone : Option Code → List ℕ → Reply → Type 0
 IsToldWhereDone refusal block reply = refusal ≡ None → block ≡ canonical_reply reply
 
--- the call's row tells something of this volume, and its session goes on
-pub record TellsOf (call : Call) (volume : ℕ) (refuses : World → VolumeState → Option Code) (reply : World → VolumeState → Reply) : Type 0 where
-  pub row_is : row call ≡ tells_of volume refuses reply
+-- the call's row tells a user something of this volume, and its session goes on
+pub record TellsOf (call : Call) (volume : ℕ) (refuses : World → ℕ → VolumeState → Option Code) (reply : World → ℕ → VolumeState → Reply) : Type 0 where
+  pub row_is : row call ≡ tells_of volume (λ w s v. refuses w (user_of s) v) (λ w s v. reply w (user_of s) v)
   pub goes_on : ends_session call ≡ false

@@ -1,13 +1,14 @@
-//! The volumes by their ids and by their places, and settling one.
+//! The volumes by their ids and by their places, the user of a session, and settling a volume's keeper.
 ghost use Rattle.std.specs.Prelude.{◌≡◌, ◌+◌, ◌<◌, None, Some, MatchOption, length, option_map, slice_get};
 ghost use Rattle.afp_serial.specs.World.{volume_at};
-ghost use Rattle.afp_core_state.specs.OnVolumes.{BecomesKept, IsOpen};
+ghost use Rattle.afp_core_state.specs.OnVolumes.{BecomesKept, IsOpen, IsUser};
 ghost use Rattle.volume_keeper_commit.specs.Changing.{Settles};
 
 use crate::state::State;
 use afp_base::{SessionNumber, VolumeId};
 use record_keeper::{Keeper, KeeperFault};
 use volume_keeper_commit::KeptVolume;
+use volume_spec::limits::GUEST;
 
 impl<K: Keeper> State<K> {
     /// The index of the volume of an id: ids count from 1, in house order.
@@ -29,6 +30,13 @@ impl<K: Keeper> State<K> {
             return None;
         }
         self.index(volume)
+    }
+
+    /// The user for whom the session calls: the guest, where nobody logged in.
+    pub fn user(&self, session: SessionNumber) -> u32
+        ensures { IsUser self.now session.0 result }
+    {
+        self.sessions.user(session).unwrap_or(GUEST)
     }
 
     /// The volume at an index.

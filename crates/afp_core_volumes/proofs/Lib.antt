@@ -1,3 +1,4 @@
 pub mod OnVolumeRows
 pub mod VolumeLemmas
 pub mod CallRows
+mod UserIds

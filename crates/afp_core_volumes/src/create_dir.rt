@@ -29,7 +29,7 @@ pub fn create_dir<K: Keeper>(
     ensures { RunsRow state.old session.0 call.now result state.new }
 {
     let block = next_id_block(state, volume)?;
-    change(state, session, volume, call, block)
+    change(state, session, volume, None, call, block)
 }
 
 /// The bytes of the next id of a volume, where its ids have not ended.

@@ -1,8 +1,10 @@
 //! FPEnumerate, FPEnumerateExt and FPEnumerateExt2 (AFP Reference, under these names).
-ghost use Rattle.std.specs.Prelude.{◌≡◌, true, false};
+ghost use Rattle.std.specs.Prelude.{◌≡◌, ℕ, false};
 ghost use Rattle.afp_calls_grammar.specs.declared.call.Call.{Call};
 ghost use Rattle.afp_serial.specs.Enumerate.{lists};
 ghost use Rattle.afp_serial.specs.Rows.{ends_session, row};
+ghost use Rattle.volume_spec.specs.Enumerate.{ListAsked as AskedOf};
+ghost use Rattle.afp_core_state.specs.OnVolumes.{IsUser};
 ghost use Rattle.afp_core_state.specs.Running.{RunsRow};
 
 use afp_base::{Bytes, Code, NodeId, OutOfMemory, SessionNumber, VolumeId};
@@ -18,12 +20,24 @@ pub fn enumerate<K: Keeper>(
     session: SessionNumber,
     volume: VolumeId,
     dir: NodeId,
-    asked: ListAsked,
+    file_bits: u16,
+    dir_bits: u16,
+    count: u16,
+    start: u16,
+    size: u16,
     path: &Path,
 ) -> Result<(Told, Outcome), OutOfMemory>
-    requires { asked.wide ≡ false }
-    ensures { RunsRow state.now session.0 (Call.Enumerate volume dir asked.file_bits asked.dir_bits asked.count asked.start asked.size path.now) result state.now }
+    ensures { RunsRow state.now session.0 (Call.Enumerate volume dir file_bits dir_bits count start size path.now) result state.now }
 {
+    let asked = ListAsked {
+        wide: false,
+        user: state.user(session),
+        file_bits,
+        dir_bits,
+        count,
+        start: u32::from(start),
+        size: u32::from(size),
+    };
     list(state, session, volume, dir, asked, path)
 }
 
@@ -33,12 +47,24 @@ pub fn enumerate_ext<K: Keeper>(
     session: SessionNumber,
     volume: VolumeId,
     dir: NodeId,
-    asked: ListAsked,
+    file_bits: u16,
+    dir_bits: u16,
+    count: u16,
+    start: u16,
+    size: u16,
     path: &Path,
 ) -> Result<(Told, Outcome), OutOfMemory>
-    requires { asked.wide ≡ true }
-    ensures { RunsRow state.now session.0 (Call.EnumerateExt volume dir asked.file_bits asked.dir_bits asked.count asked.start asked.size path.now) result state.now }
+    ensures { RunsRow state.now session.0 (Call.EnumerateExt volume dir file_bits dir_bits count start size path.now) result state.now }
 {
+    let asked = ListAsked {
+        wide: true,
+        user: state.user(session),
+        file_bits,
+        dir_bits,
+        count,
+        start: u32::from(start),
+        size: u32::from(size),
+    };
     list(state, session, volume, dir, asked, path)
 }
 
@@ -48,16 +74,28 @@ pub fn enumerate_ext2<K: Keeper>(
     session: SessionNumber,
     volume: VolumeId,
     dir: NodeId,
-    asked: ListAsked,
+    file_bits: u16,
+    dir_bits: u16,
+    count: u16,
+    start: u32,
+    size: u32,
     path: &Path,
 ) -> Result<(Told, Outcome), OutOfMemory>
-    requires { asked.wide ≡ true }
-    ensures { RunsRow state.now session.0 (Call.EnumerateExt2 volume dir asked.file_bits asked.dir_bits asked.count asked.start asked.size path.now) result state.now }
+    ensures { RunsRow state.now session.0 (Call.EnumerateExt2 volume dir file_bits dir_bits count start size path.now) result state.now }
 {
+    let asked = ListAsked {
+        wide: true,
+        user: state.user(session),
+        file_bits,
+        dir_bits,
+        count,
+        start,
+        size,
+    };
     list(state, session, volume, dir, asked, path)
 }
 
-/// What the three share: a call whose row is this list.
+/// What the three share: a call whose row is this list, which the session's user asks.
 fn list<K: Keeper>(
     state: &State<K>,
     session: SessionNumber,
@@ -66,7 +104,7 @@ fn list<K: Keeper>(
     asked: ListAsked,
     path: &Path,
 ) -> Result<(Told, Outcome), OutOfMemory>
-    ensures { (call : Call) → row call ≡ lists volume.0 asked dir.0 path.now → ends_session call ≡ false → RunsRow state.now session.0 call result state.now }
+    ensures { (call : Call) (asks : ℕ → AskedOf) → row call ≡ lists volume.0 asks dir.0 path.now → ends_session call ≡ false → IsUser state.now session.0 asked.user → asks asked.user ≡ asked → RunsRow state.now session.0 call result state.now }
 {
     let Some(index) = state.opened(session, volume) else {
         return Ok((refused(state.alloc, Code::ParamErr), Outcome::Done));

@@ -27,6 +27,7 @@ pub fn get_file_dir_parms<K: Keeper>(
     let mut block = Bytes::new(state.alloc);
     let answer = state.kept_at(index).get_file_dir_parms(
         state.alloc,
+        state.user(session),
         &opens,
         file_bits,
         dir_bits,

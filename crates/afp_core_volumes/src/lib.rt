@@ -9,4 +9,5 @@ pub mod get_file_dir_parms;
 pub mod get_vol_parms;
 pub mod open_dir;
 pub mod open_vol;
+pub mod set_dir_parms;
 pub mod tree_changes;

@@ -27,7 +27,9 @@ pub fn open_dir<K: Keeper>(
     let Some(index) = state.opened(session, volume) else {
         return Ok((refused(state.alloc, Code::ParamErr), Outcome::Done));
     };
-    let answer = state.kept_at(index).open_dir(state.alloc, dir, path);
+    let answer = state
+        .kept_at(index)
+        .open_dir(state.alloc, state.user(session), dir, path);
     told_node(state.alloc, answer)
 }
 

@@ -1,8 +1,10 @@
 //! The calls that change a volume's tree: FPCreateDir, FPCreateFile, FPDelete, FPRename, FPMoveAndRename, FPSetFileParms, FPSetDirParms,
 //! FPSetFileDirParms and FPSetVolParms (AFP Reference, under these names).
-ghost use Rattle.std.specs.Prelude.{◌<◌, length, IfSome, IsSome};
+ghost use Rattle.std.specs.Prelude.{◌≡◌, ◌<◌, length, Option, IfSome, IsSome};
+ghost use Rattle.afp_base.specs.declared.code.Code.{Code as CodeOf};
 ghost use Rattle.afp_replies.specs.declared.reply.Reply.{Reply};
 ghost use Rattle.afp_serial.specs.OnVolume.{opened_on};
+ghost use Rattle.afp_serial.specs.World.{World};
 ghost use Rattle.volume_spec.specs.TreeSteps.{TreeCall};
 ghost use Rattle.volume_spec.specs.VolumeState.{VolumeState};
 ghost use Rattle.afp_core_volumes.specs.lemma.VolumeRows.{AreToldOf};
@@ -30,38 +32,44 @@ pub fn change_alone<K: Keeper>(
     ensures { RunsRow state.old session.0 call.now result state.new }
 {
     let nothing = Bytes::new(state.alloc);
-    change(state, session, volume, call, nothing)
+    change(state, session, volume, None, call, nothing)
 }
 
-/// A call that changes the tree of a volume that the session has open; `block` is what it tells where it is done.
+/// A call that changes the tree of a volume that the session has open; `behind` is what it is refused for where the volume does not refuse it, and
+/// `block` is what it tells where it is done.
 pub(crate) fn change<K: Keeper>(
     state: &mut State<K>,
     session: SessionNumber,
     volume: VolumeId,
+    behind: Option<Code>,
     call: &Call,
     block: Bytes,
 ) -> Result<(Told, Outcome), OutOfMemory>
     requires { IsSome (tree_call call.now) }
-    ensures { (change : TreeCall) (reply : VolumeState → Reply) → ChangesTree call.now volume.0 change reply → AreToldOf state.old volume.0 change reply block → RunsRow state.old session.0 call.now result state.new }
+    ensures { (change : TreeCall) (reply : VolumeState → Reply) (after : World → Option CodeOf) → ChangesTree call.now after volume.0 change reply → after state.old.world ≡ behind → AreToldOf state.old volume.0 change reply block
+        → RunsRow state.old session.0 call.now result state.new }
 {
     let Some(index) = state.opened(session, volume) else {
         return Ok((refused(state.alloc, Code::ParamErr), Outcome::Done));
     };
-    let answer = change_at(state, index, volume, call);
+    let user = state.user(session);
+    let answer = change_at(state, index, user, volume, behind, call);
     told_changed(state.alloc, answer, block)
 }
 
-/// Changes the volume at an index, with the forks open that are open of the volume of this id.
+/// Changes the volume at an index for a user, with the forks open that are open of the volume of this id.
 fn change_at<K: Keeper>(
     state: &mut State<K>,
     index: usize,
+    user: u32,
     volume: VolumeId,
+    behind: Option<Code>,
     call: &Call,
 ) -> Result<(), ChangeFault>
     requires within { index < length state.old.world.volumes }
     requires tree { IsSome (tree_call call.now) }
-    ensures { IfSome (tree_call call.now) (λ change. BecomesKept state.old index (λ old one. Changes old state.old.world.latest (opened_on state.old.world volume.0) change result one) state.new) }
+    ensures { IfSome (tree_call call.now) (λ change. BecomesKept state.old index (λ old one. Changes old user state.old.world.latest (opened_on state.old.world volume.0) behind change result one) state.new) }
 {
     let opens = state.forks.on(volume);
-    state.kept[index].change(state.alloc, state.latest, &opens, call)
+    state.kept[index].change(state.alloc, user, state.latest, &opens, behind, call)
 }

@@ -30,10 +30,10 @@ TellsNode (Err (fault.Code code)) (Err e) = ⊥
 TellsNode (Err fault.Memory) (Ok r) = ⊥
 TellsNode (Err fault.Memory) (Err e) = Unit {0}
 
--- the bytes are the reply to the change, where it is not refused
+-- the bytes are the reply to the change, where it is not refused to a user
 abbrev pub AreToldOf : KeptWorld → ℕ → TreeCall → (VolumeState → AfpReply) → List ℕ → Type 0
 AreToldOf k volume change reply block =
-    (v : VolumeState) → volume_at k.world.volumes volume ≡ Some v → tree_refusal v (opened_on k.world volume) change ≡ None → block ≡ canonical_reply (reply v)
+    (v : VolumeState) (user : ℕ) → volume_at k.world.volumes volume ≡ Some v → tree_refusal v user (opened_on k.world volume) change ≡ None → block ≡ canonical_reply (reply v)
 
 -- the id is that of the volume with exactly that name, which is there
 pub record IsNamed (w : World) (name : List ℕ) (id : ℕ) : Type 0 where

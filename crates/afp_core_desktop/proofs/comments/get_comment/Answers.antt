@@ -12,5 +12,5 @@ returns-in_default g c =
 pub returns : goal.returns
 returns g c =
     let answer = c.put_comment-answer in
-    tells-runs c.args.state.now c.args.session.0 _ c.args.dt _ _ (get_comment-tells c.args.dt c.args.dir c.args.path.now) c.in-Some.index c.whole_at-volume.result.now.state _ _ answer.result c.new-block.result answer.new.out
-    c.told_of.result c.in-Some.ensures c.whole_at-volume.ensures refl refl answer.ensures.refused c.new-block.ensures answer.ensures.ok c.told_of.ensures
+    tells-runs c.args.state.now c.args.session.0 _ c.args.dt _ _ (get_comment-tells c.args.dt c.args.dir c.args.path.now) c.user.result c.in-Some.index c.whole_at-volume.result.now.state _ _ answer.result c.new-block.result answer.new.out
+    c.told_of.result c.user.ensures c.in-Some.ensures c.whole_at-volume.ensures refl refl answer.ensures.refused c.new-block.ensures answer.ensures.ok c.told_of.ensures

@@ -7,7 +7,7 @@ use Rattle.afp_core_desktop.proofs.comments.remove_comment.Goals as goal
 
 pub run_plan-requires-clause-may : goal.run_plan-requires-clause-may
 run_plan-requires-clause-may g c =
-    plans-commit c.args.state.now c.in-Some.index c.whole_at-volume.result.now.state c.latest.result (RemoveComment c.args.dir.0 c.args.path.now) c.plan_remove_comment-answer.result c.whole_at-volume.ensures c.plan_remove_comment-answer.ensures.plan
+    plans-commit c.args.state.now c.in-Some.index c.user.result c.whole_at-volume.result.now.state c.latest.result (RemoveComment c.args.dir.0 c.args.path.now) c.plan_remove_comment-answer.result c.whole_at-volume.ensures c.plan_remove_comment-answer.ensures.plan
 
 pub returns-in_default : goal.returns-in_default
 returns-in_default g c =
@@ -17,5 +17,5 @@ returns-in_default g c =
 pub returns : goal.returns
 returns g c =
     let answer = c.plan_remove_comment-answer in
-    plan-runs c.args.state.now c.args.session.0 _ c.args.dt _ _ (remove_comment-changes c.args.dt c.args.dir c.args.path.now) c.run_plan.new.state c.in-Some.index c.whole_at-volume.result.now.state c.latest.result answer.result c.new-nothing.result c.run_plan.result
-    c.in-Some.ensures c.whole_at-volume.ensures c.latest.ensures answer.ensures.refused answer.ensures.plan (λ passes. c.new-nothing.ensures) c.run_plan.ensures
+    plan-runs c.args.state.now c.args.session.0 _ c.args.dt _ _ (remove_comment-changes c.args.dt c.args.dir c.args.path.now) c.run_plan.new.state c.user.result c.in-Some.index c.whole_at-volume.result.now.state c.latest.result answer.result c.new-nothing.result c.run_plan.result
+    c.user.ensures c.in-Some.ensures c.whole_at-volume.ensures c.latest.ensures answer.ensures.refused answer.ensures.plan (λ passes. c.new-nothing.ensures) c.run_plan.ensures

@@ -1,6 +1,6 @@
 use Rattle.std.proofs.Common.{◌≡◌, ◌∙◌, ap, of_z, rules, sym, to_z, w32, w64}
-use Rattle.afp_calls_grammar.specs.declared.call.Call.TheVariants.{DisconnectOldSession, Login, LoginExt, MapName, SetForkParms, Write, WriteExt}
-use Rattle.afp_core_volumes.proofs.CallRows.{create_file-changes, delete-changes, move_and_rename-changes, rename-changes, set_dir_parms-changes, set_file_dir_parms-changes, set_file_parms-changes, set_vol_parms-changes}
+use Rattle.afp_calls_grammar.specs.declared.call.Call.TheVariants.{DisconnectOldSession, Login, LoginExt, MapName, SetDirParms, SetForkParms, Write, WriteExt}
+use Rattle.afp_core_volumes.proofs.CallRows.{create_file-changes, delete-changes, move_and_rename-changes, rename-changes, set_file_dir_parms-changes, set_file_parms-changes, set_vol_parms-changes}
 use Rattle.afp_core_state.proofs.RowLemmas.{call-as, row-as}
 use Rattle.afp_core_dispatch.proofs.call.row.Goals as goal
 
@@ -85,8 +85,10 @@ change_alone-requires-in-MoveAndRename g c = let x = c.in-MoveAndRename in move_
 pub change_alone-requires-in-Rename : goal.change_alone-requires-in-Rename
 change_alone-requires-in-Rename g c = let x = c.in-Rename in rename-changes c.args.call.now x.volume x.dir x.path x.new_path x.is
 
-pub change_alone-requires-in-SetDirParms : goal.change_alone-requires-in-SetDirParms
-change_alone-requires-in-SetDirParms g c = let x = c.in-SetDirParms in set_dir_parms-changes c.args.call.now x.volume x.dir x.bits x.path x.tail x.is
+pub set_dir_parms-requires : goal.set_dir_parms-requires
+set_dir_parms-requires g c =
+    let x = c.in-SetDirParms in
+    record { dir = x.dir; path = x.path; is = x.is ∙ ap (SetDirParms x.volume x.dir x.bits x.path) (sym c.as_slice-in-SetDirParms.ensures) }
 
 pub change_alone-requires-in-SetFileDirParms : goal.change_alone-requires-in-SetFileDirParms
 change_alone-requires-in-SetFileDirParms g c = let x = c.in-SetFileDirParms in set_file_dir_parms-changes c.args.call.now x.volume x.dir x.bits x.path x.tail x.is

@@ -36,7 +36,7 @@ returns-in-Ok g c =
     let asked : CopyAsked = record { volume = x.volume.0; dir = x.dir.0; path = x.path.now; target = x.target_volume.0; target_dir = x.target_dir.0; target_path = x.target_path.now; new_path = x.new_path.now } in
     let opened : (s : Session) → session_of x.state.now.world.sessions x.session.0 ≡ Some s → has_opened s asked.target ≡ true =
     (λ s at. sym (c.has_volume.ensures s (ap (λ (k : KeptWorld). session_of k.world.sessions x.session.0) c.state.view_is ∙ at)) ∙ c.if-not-has_volume.false) in
-    copy-runs x.state.now x.session.0 _ asked (copy_file-row x.volume x.dir x.target_volume x.target_dir x.path.now x.target_path.now x.new_path.now) refl c.in-Some.index c.in-Some.ensures opened c.in-Ok.target c.in-Ok.plan
+    copy-runs x.state.now x.session.0 _ asked (copy_file-row x.volume x.dir x.target_volume x.target_dir x.path.now x.target_path.now x.new_path.now) refl c.user-user.result c.in-Some.index c.user-user.ensures c.in-Some.ensures opened c.in-Ok.target c.in-Ok.plan
     c.in-Ok.ensures _ c.commit_at-committed.result _ _ c.new.ensures c.commit_at-committed.ensures c.told_committed.ensures
 
 pub returns-in-Err : goal.returns-in-Err
@@ -45,5 +45,5 @@ returns-in-Err g c =
     let asked : CopyAsked = record { volume = x.volume.0; dir = x.dir.0; path = x.path.now; target = x.target_volume.0; target_dir = x.target_dir.0; target_path = x.target_path.now; new_path = x.new_path.now } in
     let opened : (s : Session) → session_of x.state.now.world.sessions x.session.0 ≡ Some s → has_opened s asked.target ≡ true =
     (λ s at. sym (c.has_volume.ensures s (ap (λ (k : KeptWorld). session_of k.world.sessions x.session.0) c.state.view_is ∙ at)) ∙ c.if-not-has_volume.false) in
-    copy-told x.state.now x.session.0 _ asked (copy_file-row x.volume x.dir x.target_volume x.target_dir x.path.now x.target_path.now x.new_path.now) refl c.in-Some.index c.in-Some.ensures opened c.in-Err.fault _ _
-    (subst (λ (r : Result (ℕ × PlanValue) PlanFault). PlansCopy x.state.now c.in-Some.index asked r) c.in-Err.is c.plan_copy-planned.ensures) c.told_of.ensures
+    copy-told x.state.now x.session.0 _ asked (copy_file-row x.volume x.dir x.target_volume x.target_dir x.path.now x.target_path.now x.new_path.now) refl c.user-user.result c.in-Some.index c.user-user.ensures c.in-Some.ensures opened c.in-Err.fault _ _
+    (subst (λ (r : Result (ℕ × PlanValue) PlanFault). PlansCopy x.state.now c.user-user.result c.in-Some.index asked r) c.in-Err.is c.plan_copy-planned.ensures) c.told_of.ensures

@@ -21,6 +21,6 @@ returns g c =
     let v = c.kept_at-kept.result.now.state in
     let k = c.args.state.now in
     let opens = sym (c.on-opens.ensures k.world (has-forks k.world c.state.inside.forks (ap (λ (x : KeptWorld). forks_in x.world) c.state.view_is))) in
-    tells-runs k c.args.session.0 _ c.args.volume.0 _ _ (resolve_id-tells c.args.volume c.args.id c.args.bits) c.in-Some.index v _ _ answer.result c.new-block.result answer.new.out
-    c.told_of.result c.in-Some.ensures c.kept_at-kept.ensures refl (ap (λ (l : List Opened). resolve_id_reply c.args.bits (resolve_id_values v l c.args.id.0 c.args.bits)) opens)
+    tells-runs k c.args.session.0 _ c.args.volume.0 _ _ (resolve_id-tells c.args.volume c.args.id c.args.bits) c.user-user.result c.in-Some.index v _ _ answer.result c.new-block.result answer.new.out
+    c.told_of.result c.user-user.ensures c.in-Some.ensures c.kept_at-kept.ensures refl (ap (λ (l : List Opened). resolve_id_reply c.args.bits (resolve_id_values v l c.args.id.0 c.args.bits)) opens)
     answer.ensures.refused c.new-block.ensures answer.ensures.ok c.told_of.ensures

@@ -14,5 +14,5 @@ pub returns : goal.returns
 returns g c =
     let answer = c.open_dir-answer in
     let v = c.kept_at.result.now.state in
-    tells-node c.args.state.now c.args.session.0 _ c.args.volume.0 _ _ (open_dir-tells c.args.volume c.args.dir c.args.path.now) c.in-Some.index v answer.result c.told_node.result
-    c.in-Some.ensures c.kept_at.ensures answer.ensures.refused (open_dir-shown v c.args.dir.0 c.args.path.now answer.result answer.ensures.id) c.told_node.ensures
+    tells-node c.args.state.now c.args.session.0 _ c.args.volume.0 _ _ (open_dir-tells c.args.volume c.args.dir c.args.path.now) c.user.result c.in-Some.index v answer.result c.told_node.result
+    c.user.ensures c.in-Some.ensures c.kept_at.ensures answer.ensures.refused (open_dir-shown v c.user.result c.args.dir.0 c.args.path.now answer.result answer.ensures.id) c.told_node.ensures
