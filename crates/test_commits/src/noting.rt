@@ -64,8 +64,8 @@ impl Keeper for NotingKeeper {
         self.keeper.next_key(alloc, after)
     }
 
-    fn commit(&mut self, alloc: Global, changes: &[Change]) -> Result<(), KeeperFault> {
-        let Ok(copies) = copies_of(alloc, changes) else {
+    fn commit(&mut self, alloc: Global, changes: Vec<Change>) -> Result<(), KeeperFault> {
+        let Ok(copies) = copies_of(alloc, changes.as_slice()) else {
             return Err(KeeperFault::Memory);
         };
         match self.keeper.commit(alloc, changes) {

@@ -12,6 +12,7 @@ use record_keeper::{Change, KeeperFault, MemoryKeeper};
 use std::alloc::Global;
 use test_lines::LineResult;
 use volume_keeper_commit::{ChangeFault, KeptVolume};
+use volume_spec::limits::GUEST;
 use volume_tree::PlanFault;
 
 /// A volume beside its keeper, and the moment of all calls.
@@ -79,7 +80,7 @@ impl Run {
     {
         let none = Opens::new(alloc);
         let opens = none.on(VolumeId(1));
-        change_result(self.kept.change(alloc, self.now, &opens, call))
+        change_result(self.kept.change(alloc, GUEST, self.now, &opens, None, call))
     }
 
     /// Asks FPCreateDir of volume 1: directory ID, pathname. A text that is no path asks nothing.
@@ -167,7 +168,7 @@ impl Run {
         let Some(path) = path_of(alloc, text) else {
             return LineResult::Word("no path");
         };
-        match self.kept.open_dir(alloc, dir, &path) {
+        match self.kept.open_dir(alloc, GUEST, dir, &path) {
             Ok(id) => LineResult::Number(u64::from(id.0)),
             Err(PlanFault::Code(code)) => LineResult::Code(code.number()),
             Err(PlanFault::Memory) => LineResult::Word("no memory"),

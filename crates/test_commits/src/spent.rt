@@ -45,7 +45,7 @@ pub fn spent_keeper(alloc: Global, name: &str) -> Result<MemoryKeeper, OutOfMemo
     put(alloc, &mut changes, &TableRow::Head(HEAD))?;
     put(alloc, &mut changes, &root(alloc, name)?)?;
     let mut keeper = MemoryKeeper::new(alloc, Vec::new(alloc));
-    match keeper.commit(alloc, changes.as_slice()) {
+    match keeper.commit(alloc, changes) {
         Ok(()) => Ok(keeper),
         Err(_) => Err(OutOfMemory),
     }

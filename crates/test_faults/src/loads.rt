@@ -62,7 +62,7 @@ fn keeper_of(alloc: Global, records: &[Record], failing: u64) -> Result<MemoryKe
 
 fn give(alloc: Global, keeper: &mut MemoryKeeper, records: &[Record]) -> Result<(), OutOfMemory> {
     let changes = changes_of(alloc, records)?;
-    match keeper.commit(alloc, changes.as_slice()) {
+    match keeper.commit(alloc, changes) {
         Ok(()) => Ok(()),
         Err(_) => Err(OutOfMemory),
     }

@@ -7,8 +7,8 @@ use afp_base::OutOfMemory;
 use record_keeper::{Change, Keeper, KeeperFault, Record, read_all};
 use sqlite_durable_file::FileKeeper;
 use std::alloc::Global;
-use std::io;
 use std::io::ErrorKind;
+use std::{io, mem};
 use test_lines::TakesLines;
 
 /// The keeper of the open file, and the changes that the next commit makes.
@@ -90,8 +90,9 @@ fn commit_each<K: Keeper>(
     span: Span,
 ) -> Result<LineResult, OutOfMemory> {
     for i in 0..span.count {
-        let change = [numbered(alloc, span.first.wrapping_add(i), span)?];
-        if let Err(fault) = keeper.commit(alloc, &change) {
+        let mut changes = Vec::new(alloc);
+        changes.push(numbered(alloc, span.first.wrapping_add(i), span)?)?;
+        if let Err(fault) = keeper.commit(alloc, changes) {
             return Ok(LineResult::Word(fault_word(fault)));
         }
     }
@@ -102,7 +103,7 @@ fn commit_each<K: Keeper>(
 fn asked<K: Keeper>(
     alloc: Global,
     keeper: &mut K,
-    changes: &[Change],
+    changes: Vec<Change>,
     line: &Line<'_>,
 ) -> Result<LineResult, OutOfMemory> {
     match line.kind {
@@ -145,16 +146,16 @@ impl Run {
         Ok(LineResult::Nothing)
     }
 
-    /// What comes of a line for the open keeper. Behind a commit no changes are left.
+    /// What comes of a line for the open keeper. A commit takes the changes, so that none are left.
     fn ask(&mut self, alloc: Global, line: &Line<'_>) -> Result<LineResult, OutOfMemory> {
-        let result = match &mut self.keeper {
-            Some(keeper) => asked(alloc, keeper, self.changes.as_slice(), line)?,
-            None => CLOSED,
-        };
+        let mut changes = Vec::new(alloc);
         if line.kind == Kind::Commit {
-            self.changes = Vec::new(alloc);
+            changes = mem::replace(&mut self.changes, changes);
         }
-        Ok(result)
+        match &mut self.keeper {
+            Some(keeper) => asked(alloc, keeper, changes, line),
+            None => Ok(CLOSED),
+        }
     }
 
     fn run(&mut self, rt: &HostRuntime, line: &Line<'_>) -> Result<LineResult, OutOfMemory> {

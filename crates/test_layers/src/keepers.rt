@@ -26,7 +26,7 @@ fn commit<K: Keeper>(alloc: Global, keeper: &mut K, text: &str) -> Result<(), Fa
     for part in text.split_whitespace() {
         changes.push(change(alloc, part)?)?;
     }
-    keeper.commit(alloc, changes.as_slice())?;
+    keeper.commit(alloc, changes)?;
     Ok(())
 }
 

@@ -35,7 +35,7 @@ impl Keeper for OneKey {
         Ok(Some(RecordKey::new(Bytes::new(alloc))))
     }
 
-    fn commit(&mut self, _alloc: Global, _changes: &[Change]) -> Result<(), KeeperFault> {
+    fn commit(&mut self, _alloc: Global, _changes: Vec<Change>) -> Result<(), KeeperFault> {
         Ok(())
     }
 

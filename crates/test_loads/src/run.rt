@@ -151,7 +151,7 @@ impl Run {
 
     fn change(&mut self, alloc: Global, line: &Line<'_>) -> Result<LineResult, OutOfMemory> {
         let changes = changes_of(alloc, line)?;
-        match self.keeper.commit(alloc, changes.as_slice()) {
+        match self.keeper.commit(alloc, changes) {
             Ok(()) => Ok(LineResult::Nothing),
             Err(fault) => Ok(word_of(fault)),
         }

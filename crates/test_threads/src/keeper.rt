@@ -47,7 +47,7 @@ impl Keeper for LeavingKeeper {
         self.kept.next_key(alloc, after)
     }
 
-    fn commit(&mut self, alloc: Global, changes: &[Change]) -> Result<(), KeeperFault> {
+    fn commit(&mut self, alloc: Global, changes: Vec<Change>) -> Result<(), KeeperFault> {
         self.kept.commit(alloc, changes)
     }
 
