@@ -1,10 +1,17 @@
--- What is put together is the bytes of the call.
-use Rattle.std.proofs.Common.{◌≡◌, ℕ, ℤ, List, [], ◌++◌, length, refl, sym, ◌∙◌}
+-- What the groups read and write together.
+use Rattle.std.proofs.Common.{◌≡◌, ℕ, ℤ, List, [], ◌++◌, length, Some, Result, Ok, Err, refl, sym, ◌∙◌}
 use Rattle.afp_base.specs.declared.ids.ForkRef.{ForkRef}
 use Rattle.afp_calls_grammar.specs.declared.call.Call.{Call}
 use Rattle.afp_calls_grammar.specs.declared.call.Call.TheVariants.{Write, WriteExt, AddIcon}
 use Rattle.afp_calls_grammar.specs.Call.{layout_of, canonical_call, canonical_piece}
+use Rattle.afp_calls_grammar.specs.declared.call.ReadFault.{ReadFault}
+use Rattle.afp_calls_grammar.specs.declared.call.ReadFault.TheVariants as faults
+use Rattle.afp_calls_grammar.specs.Spelt.{readers}
+use Rattle.afp_calls_fields.specs.Input.{Input, bytes_left}
 use Rattle.afp_calls_fields.specs.Putting.{PutTogether, put_on}
+use Rattle.afp_calls_fields.specs.Taking.{GivesBy}
+use Rattle.afp_calls.specs.declared.group.Group.{Group}
+use Rattle.afp_calls.specs.lemma.Known.{IsGroupWith, Knows, readers_of}
 
 -- no piece comes with the other requests
 pub no_piece : (call : Call) → ((flag : ℕ) (reference : ForkRef) (offset : ℤ) (count : ℕ) (piece : List ℕ) → call ≡ Write flag reference offset count piece → ⊥)
@@ -20,3 +27,10 @@ no_piece call a b c = refl
 pub block_is : PutTogether → (c : Call) (block new : List ℕ) → put_on (length block) (layout_of c).fields block ≡ new → new ≡ block ++ canonical_call c
 unfolding canonical_call
 block_is law c block new put = sym put ∙ law (layout_of c).fields block
+
+-- what the reader of a group finds is what the reader of the number finds
+pub group_knows : (n : ℕ) (group : Group) (f : Input) (result : Result Call ReadFault) → IsGroupWith n (Some group) → GivesBy (readers_of group) n f result → Knows readers n f result
+group_knows n group f (Ok call) here found = (here.0, here.1 f.place f.enclosed (bytes_left f) ∙ found)
+group_knows n group f (Err faults.Param) here found = (here.0, here.1 f.place f.enclosed (bytes_left f) ∙ found)
+group_knows n group f (Err faults.NotSupported) here found = absurd found
+group_knows n group f (Err faults.Memory) here found = tt

@@ -2,6 +2,7 @@
 //! Reference, "AFP Calls"). The call's group reads and writes its fields.
 #![tactic(auto)]
 
+mod group;
 mod read;
 mod write;
 

@@ -8,15 +8,16 @@ ghost use Rattle.afp_calls_grammar.specs.Spelt.{is_command, readers, spelt_call}
 ghost use Rattle.afp_calls.specs.Answer.{IsReadAnswer, IsReadRefusal};
 ghost use Rattle.afp_calls.specs.lemma.Known.{Knows};
 
-use afp_calls_desktop::{is_desktop_call, read_desktop_call};
-use afp_calls_directory::{is_directory_call, read_directory_call};
+use crate::group::{Group, group_with};
+use afp_calls_desktop::read_desktop_call;
+use afp_calls_directory::read_directory_call;
 use afp_calls_fields::Fields;
-use afp_calls_file::{is_file_call, read_file_call};
-use afp_calls_fork::{is_fork_call, read_fork_call};
+use afp_calls_file::read_file_call;
+use afp_calls_fork::read_fork_call;
 use afp_calls_grammar::laws::{one_request_for_each, what_is_spelt_can_be_written};
 use afp_calls_grammar::{Call, ReadFault};
-use afp_calls_session::{is_session_call, read_session_call};
-use afp_calls_volume::{is_volume_call, read_volume_call};
+use afp_calls_session::read_session_call;
+use afp_calls_volume::read_volume_call;
 use std::alloc::Global;
 
 /// Whether a command has that number.
@@ -24,12 +25,10 @@ use std::alloc::Global;
 pub fn is_command(number: u8) -> bool
     ensures { result ≡ is_command number }
 {
-    is_session_call(number)
-        || is_volume_call(number)
-        || is_directory_call(number)
-        || is_file_call(number)
-        || is_fork_call(number)
-        || is_desktop_call(number)
+    match group_with(number) {
+        Some(_) => true,
+        None => false,
+    }
 }
 
 /// The request that a block spells, with the bytes that are enclosed in a Write frame; FPWrite,
@@ -37,7 +36,11 @@ pub fn is_command(number: u8) -> bool
 /// request's last field are free, and so are those behind its piece. `NotSupported` exactly where
 /// the block's first byte is no command, `Param` exactly where there is no first byte or the command
 /// is spelt otherwise.
-pub fn read_call(alloc: Global, block: &[u8], enclosed: Option<&[u8]>) -> Result<Call, ReadFault>
+pub fn read_call<'a>(
+    alloc: Global,
+    block: &'a [u8],
+    enclosed: Option<&'a [u8]>,
+) -> Result<Call<'a>, ReadFault>
     ensures answer { IsReadAnswer block.now (option_copied enclosed.entry) result }
 
     // What is spelt is read, unless memory runs out.
@@ -53,7 +56,11 @@ pub fn read_call(alloc: Global, block: &[u8], enclosed: Option<&[u8]>) -> Result
     read(alloc, block, enclosed)
 }
 
-fn read(alloc: Global, block: &[u8], enclosed: Option<&[u8]>) -> Result<Call, ReadFault>
+fn read<'a>(
+    alloc: Global,
+    block: &'a [u8],
+    enclosed: Option<&'a [u8]>,
+) -> Result<Call<'a>, ReadFault>
     ensures { IsReadAnswer block.now (option_copied enclosed.entry) result }
 {
     one_request_for_each();
@@ -66,26 +73,21 @@ fn read(alloc: Global, block: &[u8], enclosed: Option<&[u8]>) -> Result<Call, Re
 }
 
 /// The request of that number, whose fields stand behind it.
-fn read_known(alloc: Global, command: u8, fields: &mut Fields<'_>) -> Result<Call, ReadFault>
+#[tactic(auto, using(crate::proofs::GroupLemmas::group_knows))]
+fn read_known<'a>(
+    alloc: Global,
+    command: u8,
+    fields: &mut Fields<'a>,
+) -> Result<Call<'a>, ReadFault>
     ensures { Knows readers command fields.old result }
 {
-    if is_session_call(command) {
-        return read_session_call(alloc, command, fields);
+    match group_with(command) {
+        Some(Group::Session) => read_session_call(alloc, command, fields),
+        Some(Group::Volume) => read_volume_call(alloc, command, fields),
+        Some(Group::Directory) => read_directory_call(alloc, command, fields),
+        Some(Group::File) => read_file_call(alloc, command, fields),
+        Some(Group::Fork) => read_fork_call(alloc, command, fields),
+        Some(Group::Desktop) => read_desktop_call(alloc, command, fields),
+        None => Err(ReadFault::NotSupported),
     }
-    if is_volume_call(command) {
-        return read_volume_call(alloc, command, fields);
-    }
-    if is_directory_call(command) {
-        return read_directory_call(alloc, command, fields);
-    }
-    if is_file_call(command) {
-        return read_file_call(alloc, command, fields);
-    }
-    if is_fork_call(command) {
-        return read_fork_call(alloc, command, fields);
-    }
-    if is_desktop_call(command) {
-        return read_desktop_call(alloc, command, fields);
-    }
-    Err(ReadFault::NotSupported)
 }

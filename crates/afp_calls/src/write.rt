@@ -95,7 +95,7 @@ fn put_call(alloc: Global, out: &mut Bytes, call: &Call) -> Result<(), OutOfMemo
 
 /// The piece that comes with a request, or nothing.
 #[tactic(auto, unfolding(afp_calls_grammar::specs::Call::canonical_piece))]
-fn piece_of(call: &Call) -> &[u8]
+fn piece_of<'a>(call: &'a Call) -> &'a [u8]
     ensures { result.now ≡ canonical_piece call.now }
 {
     match call {

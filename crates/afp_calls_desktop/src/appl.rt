@@ -15,7 +15,10 @@ use std::alloc::Global;
 
 /// Reads 53 FPAddAPPL: pad, desktop database reference number (2), directory ID (4), file creator
 /// (4), APPL tag (4), pathname.
-pub(crate) fn read_add_appl(alloc: Global, fields: &mut Fields<'_>) -> Result<Call, ReadFault>
+pub(crate) fn read_add_appl<'a>(
+    alloc: Global,
+    fields: &mut Fields<'a>,
+) -> Result<Call<'a>, ReadFault>
     ensures { Gives add_appl_reader fields.old result }
 {
     fields.pad()?;
@@ -59,7 +62,10 @@ pub(crate) fn write_add_appl(
 
 /// Reads 54 FPRemoveAPPL: pad, desktop database reference number (2), directory ID (4), file
 /// creator (4), pathname.
-pub(crate) fn read_remove_appl(alloc: Global, fields: &mut Fields<'_>) -> Result<Call, ReadFault>
+pub(crate) fn read_remove_appl<'a>(
+    alloc: Global,
+    fields: &mut Fields<'a>,
+) -> Result<Call<'a>, ReadFault>
     ensures { Gives remove_appl_reader fields.old result }
 {
     fields.pad()?;
@@ -99,7 +105,7 @@ pub(crate) fn write_remove_appl(
 
 /// Reads 55 FPGetAPPL: pad, desktop database reference number (2), file creator (4), APPL index
 /// (2), bitmap (2).
-pub(crate) fn read_get_appl(fields: &mut Fields<'_>) -> Result<Call, ReadFault>
+pub(crate) fn read_get_appl<'a>(fields: &mut Fields<'a>) -> Result<Call<'a>, ReadFault>
     ensures { Gives get_appl_reader fields.old result }
 {
     fields.pad()?;

@@ -17,7 +17,10 @@ use std::alloc::Global;
 
 /// Reads 56 FPAddComment: pad, desktop database reference number (2), directory ID (4), pathname,
 /// pad to even, comment (Pascal string).
-pub(crate) fn read_add_comment(alloc: Global, fields: &mut Fields<'_>) -> Result<Call, ReadFault>
+pub(crate) fn read_add_comment<'a>(
+    alloc: Global,
+    fields: &mut Fields<'a>,
+) -> Result<Call<'a>, ReadFault>
     ensures { Gives add_comment_reader fields.old result }
 {
     fields.pad()?;
@@ -62,7 +65,10 @@ pub(crate) fn write_add_comment(
 
 /// Reads 57 FPRemoveComment: pad, desktop database reference number (2), directory ID (4),
 /// pathname.
-pub(crate) fn read_remove_comment(alloc: Global, fields: &mut Fields<'_>) -> Result<Call, ReadFault>
+pub(crate) fn read_remove_comment<'a>(
+    alloc: Global,
+    fields: &mut Fields<'a>,
+) -> Result<Call<'a>, ReadFault>
     ensures { Gives remove_comment_reader fields.old result }
 {
     fields.pad()?;
@@ -92,7 +98,10 @@ pub(crate) fn write_remove_comment(
 }
 
 /// Reads 58 FPGetComment: pad, desktop database reference number (2), directory ID (4), pathname.
-pub(crate) fn read_get_comment(alloc: Global, fields: &mut Fields<'_>) -> Result<Call, ReadFault>
+pub(crate) fn read_get_comment<'a>(
+    alloc: Global,
+    fields: &mut Fields<'a>,
+) -> Result<Call<'a>, ReadFault>
     ensures { Gives get_comment_reader fields.old result }
 {
     fields.pad()?;

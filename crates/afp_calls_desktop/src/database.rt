@@ -12,7 +12,7 @@ use afp_calls_grammar::commands::{CLOSE_DT, OPEN_DT};
 use afp_calls_grammar::{Call, ReadFault};
 
 /// Reads 48 FPOpenDT: pad, volume ID (2).
-pub(crate) fn read_open_dt(fields: &mut Fields<'_>) -> Result<Call, ReadFault>
+pub(crate) fn read_open_dt<'a>(fields: &mut Fields<'a>) -> Result<Call<'a>, ReadFault>
     ensures { Gives open_dt_reader fields.old result }
 {
     fields.pad()?;
@@ -32,7 +32,7 @@ pub(crate) fn write_open_dt(out: &mut Bytes, volume: VolumeId) -> Result<(), Out
 }
 
 /// Reads 49 FPCloseDT: pad, desktop database reference number (2).
-pub(crate) fn read_close_dt(fields: &mut Fields<'_>) -> Result<Call, ReadFault>
+pub(crate) fn read_close_dt<'a>(fields: &mut Fields<'a>) -> Result<Call<'a>, ReadFault>
     ensures { Gives close_dt_reader fields.old result }
 {
     fields.pad()?;

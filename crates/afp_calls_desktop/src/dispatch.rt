@@ -1,8 +1,6 @@
 //! The requests about the desktop database, by their numbers and by their names.
-ghost use Rattle.std.specs.Prelude.{◌≡◌};
 ghost use Rattle.afp_calls_grammar.specs.Call.{IsSpellable};
 ghost use Rattle.afp_calls_grammar.specs.Group.{Desktop};
-ghost use Rattle.afp_calls_grammar.specs.Reading.{has_reader};
 ghost use Rattle.afp_calls_grammar.specs.Readers.{desktop_readers};
 ghost use Rattle.afp_calls_fields.specs.Taking.{GivesBy};
 ghost use Rattle.afp_calls_fields.specs.Putting.{WritesCall};
@@ -29,41 +27,19 @@ use afp_calls_grammar::commands::{
 use afp_calls_grammar::{Call, ReadFault};
 use std::alloc::Global;
 
-/// The numbers of the requests about the desktop database.
-const COMMANDS: [u8; 11] = [
-    OPEN_DT,
-    CLOSE_DT,
-    ADD_ICON,
-    GET_ICON,
-    GET_ICON_INFO,
-    ADD_APPL,
-    REMOVE_APPL,
-    GET_APPL,
-    ADD_COMMENT,
-    REMOVE_COMMENT,
-    GET_COMMENT,
-];
-
-/// Whether one of these requests has that number.
-pub fn is_desktop_call(command: u8) -> bool
-    ensures { result ≡ has_reader desktop_readers command }
-{
-    COMMANDS.contains(&command)
-}
-
 /// Reads the request of that number, whose fields stand behind it; `Param` where no spelling of it
 /// fits, or where none of these requests has the number.
-pub fn read_desktop_call(
+pub fn read_desktop_call<'a>(
     alloc: Global,
     command: u8,
-    fields: &mut Fields<'_>,
-) -> Result<Call, ReadFault>
+    fields: &mut Fields<'a>,
+) -> Result<Call<'a>, ReadFault>
     ensures { GivesBy desktop_readers command fields.old result }
 {
     match command {
         OPEN_DT => read_open_dt(fields),
         CLOSE_DT => read_close_dt(fields),
-        ADD_ICON => read_add_icon(alloc, fields),
+        ADD_ICON => read_add_icon(fields),
         GET_ICON => read_get_icon(fields),
         GET_ICON_INFO => read_get_icon_info(fields),
         ADD_APPL => read_add_appl(alloc, fields),

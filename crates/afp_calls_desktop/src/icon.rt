@@ -10,11 +10,10 @@ use afp_base::{Bytes, OutOfMemory};
 use afp_calls_fields::{Fields, put_bytes, put_command, put_pad, put_u8, put_u16, put_u32};
 use afp_calls_grammar::commands::{ADD_ICON, GET_ICON, GET_ICON_INFO};
 use afp_calls_grammar::{Call, ReadFault};
-use std::alloc::Global;
 
 /// Reads 192 FPAddIcon: pad, desktop database reference number (2), file creator (4), file type (4),
 /// icon type (1), pad, icon tag (4), bitmap size (2). Enclosed: the icon's bitmap, of that size.
-pub(crate) fn read_add_icon(alloc: Global, fields: &mut Fields<'_>) -> Result<Call, ReadFault>
+pub(crate) fn read_add_icon<'a>(fields: &mut Fields<'a>) -> Result<Call<'a>, ReadFault>
     ensures { Gives add_icon_reader fields.old result }
 {
     fields.pad()?;
@@ -25,7 +24,7 @@ pub(crate) fn read_add_icon(alloc: Global, fields: &mut Fields<'_>) -> Result<Ca
     fields.pad()?;
     let tag = fields.u32()?;
     let size = fields.u16()?;
-    let piece = fields.enclosed(alloc, u64::from(size))?;
+    let piece = fields.enclosed(u64::from(size))?;
     Ok(Call::AddIcon {
         dt,
         creator,
@@ -65,7 +64,7 @@ pub(crate) fn write_add_icon(
 
 /// Reads 51 FPGetIcon: pad, desktop database reference number (2), file creator (4), file type (4),
 /// icon type (1), pad, length (2).
-pub(crate) fn read_get_icon(fields: &mut Fields<'_>) -> Result<Call, ReadFault>
+pub(crate) fn read_get_icon<'a>(fields: &mut Fields<'a>) -> Result<Call<'a>, ReadFault>
     ensures { Gives get_icon_reader fields.old result }
 {
     fields.pad()?;
@@ -110,7 +109,7 @@ pub(crate) fn write_get_icon(
 
 /// Reads 52 FPGetIconInfo: pad, desktop database reference number (2), file creator (4), icon index
 /// (2).
-pub(crate) fn read_get_icon_info(fields: &mut Fields<'_>) -> Result<Call, ReadFault>
+pub(crate) fn read_get_icon_info<'a>(fields: &mut Fields<'a>) -> Result<Call<'a>, ReadFault>
     ensures { Gives get_icon_info_reader fields.old result }
 {
     fields.pad()?;

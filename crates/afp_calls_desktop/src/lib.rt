@@ -13,4 +13,4 @@ mod database;
 mod dispatch;
 mod icon;
 
-pub use dispatch::{is_desktop_call, read_desktop_call, write_desktop_call};
+pub use dispatch::{read_desktop_call, write_desktop_call};

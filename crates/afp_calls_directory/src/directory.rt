@@ -14,7 +14,10 @@ use afp_names::Path;
 use std::alloc::Global;
 
 /// Reads 6 FPCreateDir: pad, volume ID (2), directory ID (4), pathname.
-pub(crate) fn read_create_dir(alloc: Global, fields: &mut Fields<'_>) -> Result<Call, ReadFault>
+pub(crate) fn read_create_dir<'a>(
+    alloc: Global,
+    fields: &mut Fields<'a>,
+) -> Result<Call<'a>, ReadFault>
     ensures { Gives create_dir_reader fields.old result }
 {
     fields.pad()?;
@@ -44,7 +47,10 @@ pub(crate) fn write_create_dir(
 }
 
 /// Reads 25 FPOpenDir: pad, volume ID (2), directory ID (4), pathname.
-pub(crate) fn read_open_dir(alloc: Global, fields: &mut Fields<'_>) -> Result<Call, ReadFault>
+pub(crate) fn read_open_dir<'a>(
+    alloc: Global,
+    fields: &mut Fields<'a>,
+) -> Result<Call<'a>, ReadFault>
     ensures { Gives open_dir_reader fields.old result }
 {
     fields.pad()?;
@@ -74,7 +80,7 @@ pub(crate) fn write_open_dir(
 }
 
 /// Reads 3 FPCloseDir: pad, volume ID (2), directory ID (4).
-pub(crate) fn read_close_dir(fields: &mut Fields<'_>) -> Result<Call, ReadFault>
+pub(crate) fn read_close_dir<'a>(fields: &mut Fields<'a>) -> Result<Call<'a>, ReadFault>
     ensures { Gives close_dir_reader fields.old result }
 {
     fields.pad()?;

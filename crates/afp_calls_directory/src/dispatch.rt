@@ -1,8 +1,6 @@
 //! The requests about directories, and on files and directories alike, by their numbers and by their names.
-ghost use Rattle.std.specs.Prelude.{◌≡◌};
 ghost use Rattle.afp_calls_grammar.specs.Call.{IsSpellable};
 ghost use Rattle.afp_calls_grammar.specs.Group.{Directory};
-ghost use Rattle.afp_calls_grammar.specs.Reading.{has_reader};
 ghost use Rattle.afp_calls_grammar.specs.Readers.{directory_readers};
 ghost use Rattle.afp_calls_fields.specs.Taking.{GivesBy};
 ghost use Rattle.afp_calls_fields.specs.Putting.{WritesCall};
@@ -32,36 +30,13 @@ use afp_calls_grammar::commands::{
 use afp_calls_grammar::{Call, ReadFault};
 use std::alloc::Global;
 
-/// The numbers of the requests about directories, and on files and directories alike.
-const COMMANDS: [u8; 12] = [
-    CREATE_DIR,
-    OPEN_DIR,
-    CLOSE_DIR,
-    ENUMERATE,
-    ENUMERATE_EXT,
-    ENUMERATE_EXT2,
-    SET_DIR_PARMS,
-    GET_FILE_DIR_PARMS,
-    SET_FILE_DIR_PARMS,
-    DELETE,
-    RENAME,
-    MOVE_AND_RENAME,
-];
-
-/// Whether one of these requests has that number.
-pub fn is_directory_call(command: u8) -> bool
-    ensures { result ≡ has_reader directory_readers command }
-{
-    COMMANDS.contains(&command)
-}
-
 /// Reads the request of that number, whose fields stand behind it; `Param` where no spelling of it
 /// fits, or where none of these requests has the number.
-pub fn read_directory_call(
+pub fn read_directory_call<'a>(
     alloc: Global,
     command: u8,
-    fields: &mut Fields<'_>,
-) -> Result<Call, ReadFault>
+    fields: &mut Fields<'a>,
+) -> Result<Call<'a>, ReadFault>
     ensures { GivesBy directory_readers command fields.old result }
 {
     match command {

@@ -15,7 +15,10 @@ use std::alloc::Global;
 
 /// Reads 9 FPEnumerate: pad, volume ID (2), directory ID (4), file bitmap (2), directory bitmap
 /// (2), request count (2), start index (2), maximum reply size (2), pathname.
-pub(crate) fn read_enumerate(alloc: Global, fields: &mut Fields<'_>) -> Result<Call, ReadFault>
+pub(crate) fn read_enumerate<'a>(
+    alloc: Global,
+    fields: &mut Fields<'a>,
+) -> Result<Call<'a>, ReadFault>
     ensures { Gives enumerate_reader fields.old result }
 {
     fields.pad()?;
@@ -72,7 +75,10 @@ pub(crate) fn write_enumerate(
 
 /// Reads 66 FPEnumerateExt: pad, volume ID (2), directory ID (4), file bitmap (2), directory bitmap
 /// (2), request count (2), start index (2), maximum reply size (2), pathname.
-pub(crate) fn read_enumerate_ext(alloc: Global, fields: &mut Fields<'_>) -> Result<Call, ReadFault>
+pub(crate) fn read_enumerate_ext<'a>(
+    alloc: Global,
+    fields: &mut Fields<'a>,
+) -> Result<Call<'a>, ReadFault>
     ensures { Gives enumerate_ext_reader fields.old result }
 {
     fields.pad()?;
@@ -129,7 +135,10 @@ pub(crate) fn write_enumerate_ext(
 
 /// Reads 68 FPEnumerateExt2: pad, volume ID (2), directory ID (4), file bitmap (2), directory
 /// bitmap (2), request count (2), start index (4), maximum reply size (4), pathname.
-pub(crate) fn read_enumerate_ext2(alloc: Global, fields: &mut Fields<'_>) -> Result<Call, ReadFault>
+pub(crate) fn read_enumerate_ext2<'a>(
+    alloc: Global,
+    fields: &mut Fields<'a>,
+) -> Result<Call<'a>, ReadFault>
     ensures { Gives enumerate_ext2_reader fields.old result }
 {
     fields.pad()?;

@@ -12,4 +12,4 @@ mod enumerate;
 mod parameters;
 mod place;
 
-pub use dispatch::{is_directory_call, read_directory_call, write_directory_call};
+pub use dispatch::{read_directory_call, write_directory_call};

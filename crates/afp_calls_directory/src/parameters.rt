@@ -17,7 +17,10 @@ use std::alloc::Global;
 
 /// Reads 29 FPSetDirParms: pad, volume ID (2), directory ID (4), bitmap (2), pathname, pad to even,
 /// parameters (all that remains).
-pub(crate) fn read_set_dir_parms(alloc: Global, fields: &mut Fields<'_>) -> Result<Call, ReadFault>
+pub(crate) fn read_set_dir_parms<'a>(
+    alloc: Global,
+    fields: &mut Fields<'a>,
+) -> Result<Call<'a>, ReadFault>
     ensures { Gives set_dir_parms_reader fields.old result }
 {
     fields.pad()?;
@@ -64,10 +67,10 @@ pub(crate) fn write_set_dir_parms(
 
 /// Reads 34 FPGetFileDirParms: pad, volume ID (2), directory ID (4), file bitmap (2), directory
 /// bitmap (2), pathname.
-pub(crate) fn read_get_file_dir_parms(
+pub(crate) fn read_get_file_dir_parms<'a>(
     alloc: Global,
-    fields: &mut Fields<'_>,
-) -> Result<Call, ReadFault>
+    fields: &mut Fields<'a>,
+) -> Result<Call<'a>, ReadFault>
     ensures { Gives get_file_dir_parms_reader fields.old result }
 {
     fields.pad()?;
@@ -112,10 +115,10 @@ pub(crate) fn write_get_file_dir_parms(
 
 /// Reads 35 FPSetFileDirParms: pad, volume ID (2), directory ID (4), bitmap (2), pathname, pad to
 /// even, parameters (all that remains).
-pub(crate) fn read_set_file_dir_parms(
+pub(crate) fn read_set_file_dir_parms<'a>(
     alloc: Global,
-    fields: &mut Fields<'_>,
-) -> Result<Call, ReadFault>
+    fields: &mut Fields<'a>,
+) -> Result<Call<'a>, ReadFault>
     ensures { Gives set_file_dir_parms_reader fields.old result }
 {
     fields.pad()?;

@@ -14,7 +14,7 @@ use afp_names::Path;
 use std::alloc::Global;
 
 /// Reads 8 FPDelete: pad, volume ID (2), directory ID (4), pathname.
-pub(crate) fn read_delete(alloc: Global, fields: &mut Fields<'_>) -> Result<Call, ReadFault>
+pub(crate) fn read_delete<'a>(alloc: Global, fields: &mut Fields<'a>) -> Result<Call<'a>, ReadFault>
     ensures { Gives delete_reader fields.old result }
 {
     fields.pad()?;
@@ -44,7 +44,7 @@ pub(crate) fn write_delete(
 }
 
 /// Reads 28 FPRename: pad, volume ID (2), directory ID (4), pathname, new name (a pathname).
-pub(crate) fn read_rename(alloc: Global, fields: &mut Fields<'_>) -> Result<Call, ReadFault>
+pub(crate) fn read_rename<'a>(alloc: Global, fields: &mut Fields<'a>) -> Result<Call<'a>, ReadFault>
     ensures { Gives rename_reader fields.old result }
 {
     fields.pad()?;
@@ -84,10 +84,10 @@ pub(crate) fn write_rename(
 
 /// Reads 23 FPMoveAndRename: pad, volume ID (2), source directory ID (4), destination directory ID
 /// (4), source pathname, destination pathname, new name (a pathname).
-pub(crate) fn read_move_and_rename(
+pub(crate) fn read_move_and_rename<'a>(
     alloc: Global,
-    fields: &mut Fields<'_>,
-) -> Result<Call, ReadFault>
+    fields: &mut Fields<'a>,
+) -> Result<Call<'a>, ReadFault>
     ensures { Gives move_and_rename_reader fields.old result }
 {
     fields.pad()?;

@@ -33,7 +33,7 @@ StandsAlone f (Err faults.NotSupported) = ⊥
 abbrev pub TakesEnclosed : ℕ → Input → Result (List ℕ) ReadFault → Type 0
 TakesEnclosed size f (Ok piece) = (make : List ℕ → Call) → read_on (With size make) f ≡ Some (make piece)
 TakesEnclosed size f (Err faults.Param) = (make : List ℕ → Call) → read_on (With size make) f ≡ None
-TakesEnclosed size f (Err faults.Memory) = Unit {0}
+TakesEnclosed size f (Err faults.Memory) = ⊥
 TakesEnclosed size f (Err faults.NotSupported) = ⊥
 
 -- The answer is the request that was found. Param: none was found.

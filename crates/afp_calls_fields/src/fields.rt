@@ -8,7 +8,7 @@ ghost use Rattle.afp_calls_fields.specs.Taking.{Takes, TakesEnclosed, StandsAlon
 ghost use Rattle.afp_calls_fields.specs.lemma.Taking.{TakesPiece, TakesCopy};
 
 use afp_base::{Bytes, OutOfMemory, Scan};
-use afp_calls_grammar::ReadFault;
+use afp_calls_grammar::{Piece, ReadFault};
 use byteorder::{BigEndian, ByteOrder};
 use std::alloc::Global;
 use std::marker::Model;
@@ -296,7 +296,7 @@ impl<'a> Fields<'a> {
     }
 
     /// The first `size` bytes of those that a Write frame encloses.
-    pub fn enclosed(&self, alloc: Global, size: u64) -> Result<Bytes, ReadFault>
+    pub fn enclosed(&self, size: u64) -> Result<Piece<'a>, ReadFault>
         ensures { TakesEnclosed size self.now result }
     {
         let piece = match self.enclosed {
@@ -306,6 +306,6 @@ impl<'a> Fields<'a> {
         if (piece.len() as u64) < size {
             return Err(ReadFault::Param);
         }
-        Ok(Bytes::of(alloc, &piece[..size as usize])?)
+        Ok(Piece::new(&piece[..size as usize]))
     }
 }

@@ -1,8 +1,6 @@
 //! The requests about files, by their numbers and by their names.
-ghost use Rattle.std.specs.Prelude.{◌≡◌};
 ghost use Rattle.afp_calls_grammar.specs.Call.{IsSpellable};
 ghost use Rattle.afp_calls_grammar.specs.Group.{File};
-ghost use Rattle.afp_calls_grammar.specs.Reading.{has_reader};
 ghost use Rattle.afp_calls_grammar.specs.Readers.{file_readers};
 ghost use Rattle.afp_calls_fields.specs.Taking.{GivesBy};
 ghost use Rattle.afp_calls_fields.specs.Putting.{WritesCall};
@@ -23,31 +21,13 @@ use afp_calls_grammar::commands::{
 use afp_calls_grammar::{Call, ReadFault};
 use std::alloc::Global;
 
-/// The numbers of the requests about files.
-const COMMANDS: [u8; 7] = [
-    CREATE_FILE,
-    COPY_FILE,
-    SET_FILE_PARMS,
-    EXCHANGE_FILES,
-    CREATE_ID,
-    DELETE_ID,
-    RESOLVE_ID,
-];
-
-/// Whether one of these requests has that number.
-pub fn is_file_call(command: u8) -> bool
-    ensures { result ≡ has_reader file_readers command }
-{
-    COMMANDS.contains(&command)
-}
-
 /// Reads the request of that number, whose fields stand behind it; `Param` where no spelling of it
 /// fits, or where none of these requests has the number.
-pub fn read_file_call(
+pub fn read_file_call<'a>(
     alloc: Global,
     command: u8,
-    fields: &mut Fields<'_>,
-) -> Result<Call, ReadFault>
+    fields: &mut Fields<'a>,
+) -> Result<Call<'a>, ReadFault>
     ensures { GivesBy file_readers command fields.old result }
 {
     match command {

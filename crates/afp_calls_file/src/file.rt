@@ -21,7 +21,10 @@ use afp_names::Path;
 use std::alloc::Global;
 
 /// Reads 7 FPCreateFile: flag (1; 0x80 hard), volume ID (2), directory ID (4), pathname.
-pub(crate) fn read_create_file(alloc: Global, fields: &mut Fields<'_>) -> Result<Call, ReadFault>
+pub(crate) fn read_create_file<'a>(
+    alloc: Global,
+    fields: &mut Fields<'a>,
+) -> Result<Call<'a>, ReadFault>
     ensures { Gives create_file_reader fields.old result }
 {
     let flag = fields.u8()?;
@@ -58,7 +61,10 @@ pub(crate) fn write_create_file(
 
 /// Reads 5 FPCopyFile: pad, source volume ID (2), source directory ID (4), destination volume ID
 /// (2), destination directory ID (4), source pathname, destination pathname, new name (a pathname).
-pub(crate) fn read_copy_file(alloc: Global, fields: &mut Fields<'_>) -> Result<Call, ReadFault>
+pub(crate) fn read_copy_file<'a>(
+    alloc: Global,
+    fields: &mut Fields<'a>,
+) -> Result<Call<'a>, ReadFault>
     ensures { Gives copy_file_reader fields.old result }
 {
     fields.pad()?;
@@ -70,14 +76,14 @@ pub(crate) fn read_copy_file(alloc: Global, fields: &mut Fields<'_>) -> Result<C
 }
 
 /// The three pathnames of FPCopyFile, behind its volumes and directories.
-fn copy_file_by_paths(
+fn copy_file_by_paths<'a>(
     alloc: Global,
-    fields: &mut Fields<'_>,
+    fields: &mut Fields<'a>,
     volume: VolumeId,
     dir: NodeId,
     target_volume: VolumeId,
     target_dir: NodeId,
-) -> Result<Call, ReadFault>
+) -> Result<Call<'a>, ReadFault>
     ensures { IsFound (read_on
         (words (Pathname ∷ Pathname ∷ Pathname ∷ []) (λ path target_path new_path. Alone
         (calls.CopyFile volume dir target_volume target_dir path target_path new_path))) fields.old)
@@ -128,7 +134,10 @@ pub(crate) fn write_copy_file(
 
 /// Reads 30 FPSetFileParms: pad, volume ID (2), directory ID (4), bitmap (2), pathname, pad to
 /// even, parameters (all that remains).
-pub(crate) fn read_set_file_parms(alloc: Global, fields: &mut Fields<'_>) -> Result<Call, ReadFault>
+pub(crate) fn read_set_file_parms<'a>(
+    alloc: Global,
+    fields: &mut Fields<'a>,
+) -> Result<Call<'a>, ReadFault>
     ensures { Gives set_file_parms_reader fields.old result }
 {
     fields.pad()?;
@@ -139,13 +148,13 @@ pub(crate) fn read_set_file_parms(alloc: Global, fields: &mut Fields<'_>) -> Res
 }
 
 /// The pathname, the pad and the parameters of FPSetFileParms, behind its bitmap.
-fn set_file_parms_behind_its_bits(
+fn set_file_parms_behind_its_bits<'a>(
     alloc: Global,
-    fields: &mut Fields<'_>,
+    fields: &mut Fields<'a>,
     volume: VolumeId,
     dir: NodeId,
     bits: u16,
-) -> Result<Call, ReadFault>
+) -> Result<Call<'a>, ReadFault>
     ensures { IsFound (read_on
         (words (Pathname ∷ Even ∷ Tail ∷ []) (λ path _ rest. Alone
         (calls.SetFileParms volume dir bits path rest))) fields.old)
@@ -191,7 +200,10 @@ pub(crate) fn write_set_file_parms(
 
 /// Reads 42 FPExchangeFiles: pad, volume ID (2), source directory ID (4), destination directory ID
 /// (4), source pathname, destination pathname.
-pub(crate) fn read_exchange_files(alloc: Global, fields: &mut Fields<'_>) -> Result<Call, ReadFault>
+pub(crate) fn read_exchange_files<'a>(
+    alloc: Global,
+    fields: &mut Fields<'a>,
+) -> Result<Call<'a>, ReadFault>
     ensures { Gives exchange_files_reader fields.old result }
 {
     fields.pad()?;

@@ -14,7 +14,10 @@ use afp_names::Path;
 use std::alloc::Global;
 
 /// Reads 39 FPCreateID: pad, volume ID (2), directory ID (4), pathname.
-pub(crate) fn read_create_id(alloc: Global, fields: &mut Fields<'_>) -> Result<Call, ReadFault>
+pub(crate) fn read_create_id<'a>(
+    alloc: Global,
+    fields: &mut Fields<'a>,
+) -> Result<Call<'a>, ReadFault>
     ensures { Gives create_id_reader fields.old result }
 {
     fields.pad()?;
@@ -44,7 +47,7 @@ pub(crate) fn write_create_id(
 }
 
 /// Reads 40 FPDeleteID: pad, volume ID (2), file ID (4).
-pub(crate) fn read_delete_id(fields: &mut Fields<'_>) -> Result<Call, ReadFault>
+pub(crate) fn read_delete_id<'a>(fields: &mut Fields<'a>) -> Result<Call<'a>, ReadFault>
     ensures { Gives delete_id_reader fields.old result }
 {
     fields.pad()?;
@@ -70,7 +73,7 @@ pub(crate) fn write_delete_id(
 }
 
 /// Reads 41 FPResolveID: pad, volume ID (2), file ID (4), bitmap (2).
-pub(crate) fn read_resolve_id(fields: &mut Fields<'_>) -> Result<Call, ReadFault>
+pub(crate) fn read_resolve_id<'a>(fields: &mut Fields<'a>) -> Result<Call<'a>, ReadFault>
     ensures { Gives resolve_id_reader fields.old result }
 {
     fields.pad()?;

@@ -10,4 +10,4 @@ mod dispatch;
 mod file;
 mod file_id;
 
-pub use dispatch::{is_file_call, read_file_call, write_file_call};
+pub use dispatch::{read_file_call, write_file_call};

@@ -1,8 +1,6 @@
 //! The requests about open forks, by their numbers and by their names.
-ghost use Rattle.std.specs.Prelude.{◌≡◌};
 ghost use Rattle.afp_calls_grammar.specs.Call.{IsSpellable};
 ghost use Rattle.afp_calls_grammar.specs.Group.{Fork};
-ghost use Rattle.afp_calls_grammar.specs.Reading.{has_reader};
 ghost use Rattle.afp_calls_grammar.specs.Readers.{fork_readers};
 ghost use Rattle.afp_calls_fields.specs.Taking.{GivesBy};
 ghost use Rattle.afp_calls_fields.specs.Putting.{WritesCall};
@@ -29,35 +27,13 @@ use afp_calls_grammar::commands::{
 use afp_calls_grammar::{Call, ReadFault};
 use std::alloc::Global;
 
-/// The numbers of the requests about open forks.
-const COMMANDS: [u8; 11] = [
-    OPEN_FORK,
-    CLOSE_FORK,
-    FLUSH_FORK,
-    GET_FORK_PARMS,
-    SET_FORK_PARMS,
-    READ,
-    READ_EXT,
-    WRITE,
-    WRITE_EXT,
-    BYTE_RANGE_LOCK,
-    BYTE_RANGE_LOCK_EXT,
-];
-
-/// Whether one of these requests has that number.
-pub fn is_fork_call(command: u8) -> bool
-    ensures { result ≡ has_reader fork_readers command }
-{
-    COMMANDS.contains(&command)
-}
-
 /// Reads the request of that number, whose fields stand behind it; `Param` where no spelling of it
 /// fits, or where none of these requests has the number.
-pub fn read_fork_call(
+pub fn read_fork_call<'a>(
     alloc: Global,
     command: u8,
-    fields: &mut Fields<'_>,
-) -> Result<Call, ReadFault>
+    fields: &mut Fields<'a>,
+) -> Result<Call<'a>, ReadFault>
     ensures { GivesBy fork_readers command fields.old result }
 {
     match command {
@@ -68,8 +44,8 @@ pub fn read_fork_call(
         SET_FORK_PARMS => read_set_fork_parms(alloc, fields),
         READ => read_read(fields),
         READ_EXT => read_read_ext(fields),
-        WRITE => read_write(alloc, fields),
-        WRITE_EXT => read_write_ext(alloc, fields),
+        WRITE => read_write(fields),
+        WRITE_EXT => read_write_ext(fields),
         BYTE_RANGE_LOCK => read_byte_range_lock(fields),
         BYTE_RANGE_LOCK_EXT => read_byte_range_lock_ext(fields),
         _ => Err(ReadFault::Param),

@@ -19,7 +19,10 @@ use std::alloc::Global;
 
 /// Reads 26 FPOpenFork: flag (1; 0x80 resource fork), volume ID (2), directory ID (4), bitmap (2),
 /// access mode (2), pathname.
-pub(crate) fn read_open_fork(alloc: Global, fields: &mut Fields<'_>) -> Result<Call, ReadFault>
+pub(crate) fn read_open_fork<'a>(
+    alloc: Global,
+    fields: &mut Fields<'a>,
+) -> Result<Call<'a>, ReadFault>
     ensures { Gives open_fork_reader fields.old result }
 {
     let flag = fields.u8()?;
@@ -64,7 +67,7 @@ pub(crate) fn write_open_fork(
 }
 
 /// Reads 4 FPCloseFork: pad, open fork reference number (2).
-pub(crate) fn read_close_fork(fields: &mut Fields<'_>) -> Result<Call, ReadFault>
+pub(crate) fn read_close_fork<'a>(fields: &mut Fields<'a>) -> Result<Call<'a>, ReadFault>
     ensures { Gives close_fork_reader fields.old result }
 {
     fields.pad()?;
@@ -84,7 +87,7 @@ pub(crate) fn write_close_fork(out: &mut Bytes, reference: ForkRef) -> Result<()
 }
 
 /// Reads 11 FPFlushFork: pad, open fork reference number (2).
-pub(crate) fn read_flush_fork(fields: &mut Fields<'_>) -> Result<Call, ReadFault>
+pub(crate) fn read_flush_fork<'a>(fields: &mut Fields<'a>) -> Result<Call<'a>, ReadFault>
     ensures { Gives flush_fork_reader fields.old result }
 {
     fields.pad()?;
@@ -104,7 +107,7 @@ pub(crate) fn write_flush_fork(out: &mut Bytes, reference: ForkRef) -> Result<()
 }
 
 /// Reads 14 FPGetForkParms: pad, open fork reference number (2), bitmap (2).
-pub(crate) fn read_get_fork_parms(fields: &mut Fields<'_>) -> Result<Call, ReadFault>
+pub(crate) fn read_get_fork_parms<'a>(fields: &mut Fields<'a>) -> Result<Call<'a>, ReadFault>
     ensures { Gives get_fork_parms_reader fields.old result }
 {
     fields.pad()?;
@@ -131,7 +134,10 @@ pub(crate) fn write_get_fork_parms(
 
 /// Reads 31 FPSetForkParms: pad, open fork reference number (2), bitmap (2), fork length (all that
 /// remains).
-pub(crate) fn read_set_fork_parms(alloc: Global, fields: &mut Fields<'_>) -> Result<Call, ReadFault>
+pub(crate) fn read_set_fork_parms<'a>(
+    alloc: Global,
+    fields: &mut Fields<'a>,
+) -> Result<Call<'a>, ReadFault>
     ensures { Gives set_fork_parms_reader fields.old result }
 {
     fields.pad()?;

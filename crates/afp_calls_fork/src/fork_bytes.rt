@@ -10,11 +10,10 @@ use afp_base::{Bytes, ForkRef, OutOfMemory};
 use afp_calls_fields::{Fields, put_command, put_i32, put_i64, put_pad, put_u8, put_u16, put_u32};
 use afp_calls_grammar::commands::{READ, READ_EXT, WRITE, WRITE_EXT};
 use afp_calls_grammar::{Call, ReadFault};
-use std::alloc::Global;
 
 /// Reads 27 FPRead: pad, open fork reference number (2), offset (4, signed), request count (4),
 /// newline mask (1), newline character (1).
-pub(crate) fn read_read(fields: &mut Fields<'_>) -> Result<Call, ReadFault>
+pub(crate) fn read_read<'a>(fields: &mut Fields<'a>) -> Result<Call<'a>, ReadFault>
     ensures { Gives read_reader fields.old result }
 {
     fields.pad()?;
@@ -57,7 +56,7 @@ pub(crate) fn write_read(
 
 /// Reads 60 FPReadExt: pad, open fork reference number (2), offset (8, signed), request count (8,
 /// signed).
-pub(crate) fn read_read_ext(fields: &mut Fields<'_>) -> Result<Call, ReadFault>
+pub(crate) fn read_read_ext<'a>(fields: &mut Fields<'a>) -> Result<Call<'a>, ReadFault>
     ensures { Gives read_ext_reader fields.old result }
 {
     fields.pad()?;
@@ -91,14 +90,14 @@ pub(crate) fn write_read_ext(
 
 /// Reads 33 FPWrite: flag (1; 0x80 from the fork's end), open fork reference number (2), offset (4,
 /// signed), request count (4). Enclosed: fork data, as many bytes as the count.
-pub(crate) fn read_write(alloc: Global, fields: &mut Fields<'_>) -> Result<Call, ReadFault>
+pub(crate) fn read_write<'a>(fields: &mut Fields<'a>) -> Result<Call<'a>, ReadFault>
     ensures { Gives write_reader fields.old result }
 {
     let flag = fields.u8()?;
     let reference = ForkRef(fields.u16()?);
     let offset = fields.i32()?;
     let count = fields.u32()?;
-    let piece = fields.enclosed(alloc, u64::from(count))?;
+    let piece = fields.enclosed(u64::from(count))?;
     Ok(Call::Write {
         flag,
         reference,
@@ -128,14 +127,14 @@ pub(crate) fn write_write(
 
 /// Reads 61 FPWriteExt: flag (1; 0x80 from the fork's end), open fork reference number (2), offset (8, signed),
 /// request count (8, signed). Enclosed: fork data, as many bytes as the count, none where it is negative.
-pub(crate) fn read_write_ext(alloc: Global, fields: &mut Fields<'_>) -> Result<Call, ReadFault>
+pub(crate) fn read_write_ext<'a>(fields: &mut Fields<'a>) -> Result<Call<'a>, ReadFault>
     ensures { Gives write_ext_reader fields.old result }
 {
     let flag = fields.u8()?;
     let reference = ForkRef(fields.u16()?);
     let offset = fields.i64()?;
     let count = fields.i64()?;
-    let piece = fields.enclosed(alloc, piece_size(count))?;
+    let piece = fields.enclosed(piece_size(count))?;
     Ok(Call::WriteExt {
         flag,
         reference,

@@ -11,4 +11,4 @@ mod fork;
 mod fork_bytes;
 mod lock;
 
-pub use dispatch::{is_fork_call, read_fork_call, write_fork_call};
+pub use dispatch::{read_fork_call, write_fork_call};

@@ -13,7 +13,7 @@ use afp_calls_grammar::{Call, ReadFault};
 
 /// Reads 1 FPByteRangeLock: flags (1; bit 0 unlocks, bit 7 counts from the fork's end), open fork
 /// reference number (2), offset (4, signed), length (4, signed).
-pub(crate) fn read_byte_range_lock(fields: &mut Fields<'_>) -> Result<Call, ReadFault>
+pub(crate) fn read_byte_range_lock<'a>(fields: &mut Fields<'a>) -> Result<Call<'a>, ReadFault>
     ensures { Gives byte_range_lock_reader fields.old result }
 {
     let flags = fields.u8()?;
@@ -50,7 +50,7 @@ pub(crate) fn write_byte_range_lock(
 
 /// Reads 59 FPByteRangeLockExt: flags (1; bit 0 unlocks, bit 7 counts from the fork's end), open
 /// fork reference number (2), offset (8, signed), length (8, signed).
-pub(crate) fn read_byte_range_lock_ext(fields: &mut Fields<'_>) -> Result<Call, ReadFault>
+pub(crate) fn read_byte_range_lock_ext<'a>(fields: &mut Fields<'a>) -> Result<Call<'a>, ReadFault>
     ensures { Gives byte_range_lock_ext_reader fields.old result }
 {
     let flags = fields.u8()?;

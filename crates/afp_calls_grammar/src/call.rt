@@ -1,4 +1,5 @@
 //! The requests, and why bytes are none.
+use crate::piece::Piece;
 use afp_base::{Bytes, ForkRef, NodeId, OutOfMemory, VolumeId};
 use afp_names::Path;
 
@@ -7,7 +8,7 @@ use afp_names::Path;
 /// where it is 3 or 4; a `path_kind` of 2 or 3; a `piece` of exactly `count` (or `size`) bytes, of
 /// none where `count` is negative; texts that fit their counts. All other rules are the call's own.
 #[derive(Drop)]
-pub enum Call {
+pub enum Call<'a> {
     ByteRangeLock {
         flags: u8,
         reference: ForkRef,
@@ -156,7 +157,7 @@ pub enum Call {
         reference: ForkRef,
         offset: i32,
         count: u32,
-        piece: Bytes,
+        piece: Piece<'a>,
     },
     GetFileDirParms {
         volume: VolumeId,
@@ -271,7 +272,7 @@ pub enum Call {
         reference: ForkRef,
         offset: i64,
         count: i64,
-        piece: Bytes,
+        piece: Piece<'a>,
     },
     LoginExt {
         flags: u16,
@@ -318,7 +319,7 @@ pub enum Call {
         icon_kind: u8,
         tag: u32,
         size: u16,
-        piece: Bytes,
+        piece: Piece<'a>,
     },
 }
 

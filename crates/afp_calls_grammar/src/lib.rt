@@ -7,5 +7,7 @@ pub mod commands;
 pub mod kinds;
 pub mod laws;
 pub mod login_names;
+mod piece;
 
 pub use call::{Call, ReadFault};
+pub use piece::Piece;

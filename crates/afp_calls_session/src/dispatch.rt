@@ -1,8 +1,6 @@
 //! The requests about the session: logging in and out, tokens, and what the server tells of itself and of users, by their numbers and by their names.
-ghost use Rattle.std.specs.Prelude.{◌≡◌};
 ghost use Rattle.afp_calls_grammar.specs.Call.{IsSpellable};
 ghost use Rattle.afp_calls_grammar.specs.Group.{Session};
-ghost use Rattle.afp_calls_grammar.specs.Reading.{has_reader};
 ghost use Rattle.afp_calls_grammar.specs.Readers.{session_readers};
 ghost use Rattle.afp_calls_fields.specs.Taking.{GivesBy};
 ghost use Rattle.afp_calls_fields.specs.Putting.{WritesCall};
@@ -31,35 +29,13 @@ use afp_calls_grammar::commands::{
 use afp_calls_grammar::{Call, ReadFault};
 use std::alloc::Global;
 
-/// The numbers of the requests about the session: logging in and out, tokens, and what the server tells of itself and of users.
-const COMMANDS: [u8; 11] = [
-    LOGIN,
-    LOGIN_EXT,
-    LOGOUT,
-    GET_SESSION_TOKEN,
-    DISCONNECT_OLD_SESSION,
-    GET_SRVR_INFO,
-    GET_SRVR_PARMS,
-    GET_SRVR_MSG,
-    GET_USER_INFO,
-    MAP_ID,
-    MAP_NAME,
-];
-
-/// Whether one of these requests has that number.
-pub fn is_session_call(command: u8) -> bool
-    ensures { result ≡ has_reader session_readers command }
-{
-    COMMANDS.contains(&command)
-}
-
 /// Reads the request of that number, whose fields stand behind it; `Param` where no spelling of it
 /// fits, or where none of these requests has the number.
-pub fn read_session_call(
+pub fn read_session_call<'a>(
     alloc: Global,
     command: u8,
-    fields: &mut Fields<'_>,
-) -> Result<Call, ReadFault>
+    fields: &mut Fields<'a>,
+) -> Result<Call<'a>, ReadFault>
     ensures { GivesBy session_readers command fields.old result }
 {
     match command {

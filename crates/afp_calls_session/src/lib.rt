@@ -11,4 +11,4 @@ mod server;
 mod token;
 mod user;
 
-pub use dispatch::{is_session_call, read_session_call, write_session_call};
+pub use dispatch::{read_session_call, write_session_call};

@@ -24,7 +24,7 @@ use std::alloc::Global;
 
 /// Reads 18 FPLogin: AFP version, UAM (a Pascal string each), user authentication information (all
 /// that remains).
-pub(crate) fn read_login(alloc: Global, fields: &mut Fields<'_>) -> Result<Call, ReadFault>
+pub(crate) fn read_login<'a>(alloc: Global, fields: &mut Fields<'a>) -> Result<Call<'a>, ReadFault>
     ensures { Gives login_reader fields.old result }
 {
     let version = fields.str(alloc)?;
@@ -54,7 +54,10 @@ pub(crate) fn write_login(
 
 /// Reads 63 FPLoginExt: pad, flags (2), AFP version, UAM (a Pascal string each), user name type (1; 3), user name (count 2, bytes),
 /// path type (1; 2 or 3), pathname (count 1 or 2, bytes), pad to even, user authentication information (all that remains).
-pub(crate) fn read_login_ext(alloc: Global, fields: &mut Fields<'_>) -> Result<Call, ReadFault>
+pub(crate) fn read_login_ext<'a>(
+    alloc: Global,
+    fields: &mut Fields<'a>,
+) -> Result<Call<'a>, ReadFault>
     ensures { Gives login_ext_reader fields.old result }
 {
     fields.pad()?;
@@ -75,12 +78,12 @@ struct LoginNames {
 }
 
 /// The path of FPLoginExt, and what follows it.
-fn read_login_ext_path(
+fn read_login_ext_path<'a>(
     alloc: Global,
-    fields: &mut Fields<'_>,
+    fields: &mut Fields<'a>,
     flags: u16,
     names: LoginNames,
-) -> Result<Call, ReadFault>
+) -> Result<Call<'a>, ReadFault>
     ensures { IsFound (read_on (words (Within 1 long_names utf8_names ∷ []) (λ path_kind. words (Counted (count_size path_kind) ∷ Even ∷ Tail ∷ []) (λ path _ rest. Alone (LoginExt flags names.version names.uam names.name path_kind path rest)))) fields.old) result }
 {
     let path_kind = fields.u8_within(LONG_NAMES, UTF8_NAMES)?;
@@ -135,7 +138,7 @@ pub(crate) fn write_login_ext(
 }
 
 /// Reads 20 FPLogout: pad, which may be missing.
-pub(crate) fn read_logout(fields: &mut Fields<'_>) -> Result<Call, ReadFault>
+pub(crate) fn read_logout<'a>(fields: &mut Fields<'a>) -> Result<Call<'a>, ReadFault>
     ensures { Gives logout_reader fields.old result }
 {
     fields.last_pad();

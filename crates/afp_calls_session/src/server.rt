@@ -12,7 +12,7 @@ use afp_calls_grammar::commands::{GET_SRVR_INFO, GET_SRVR_MSG, GET_SRVR_PARMS};
 use afp_calls_grammar::{Call, ReadFault};
 
 /// Reads 15 FPGetSrvrInfo: pad, which may be missing.
-pub(crate) fn read_get_srvr_info(fields: &mut Fields<'_>) -> Result<Call, ReadFault>
+pub(crate) fn read_get_srvr_info<'a>(fields: &mut Fields<'a>) -> Result<Call<'a>, ReadFault>
     ensures { Gives get_srvr_info_reader fields.old result }
 {
     fields.last_pad();
@@ -30,7 +30,7 @@ pub(crate) fn write_get_srvr_info(out: &mut Bytes) -> Result<(), OutOfMemory>
 }
 
 /// Reads 16 FPGetSrvrParms: pad, which may be missing.
-pub(crate) fn read_get_srvr_parms(fields: &mut Fields<'_>) -> Result<Call, ReadFault>
+pub(crate) fn read_get_srvr_parms<'a>(fields: &mut Fields<'a>) -> Result<Call<'a>, ReadFault>
     ensures { Gives get_srvr_parms_reader fields.old result }
 {
     fields.last_pad();
@@ -48,7 +48,7 @@ pub(crate) fn write_get_srvr_parms(out: &mut Bytes) -> Result<(), OutOfMemory>
 }
 
 /// Reads 38 FPGetSrvrMsg: pad, message type (2), message bitmap (2).
-pub(crate) fn read_get_srvr_msg(fields: &mut Fields<'_>) -> Result<Call, ReadFault>
+pub(crate) fn read_get_srvr_msg<'a>(fields: &mut Fields<'a>) -> Result<Call<'a>, ReadFault>
     ensures { Gives get_srvr_msg_reader fields.old result }
 {
     fields.pad()?;

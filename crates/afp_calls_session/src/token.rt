@@ -17,10 +17,10 @@ use std::alloc::Global;
 
 /// Reads 64 FPGetSessionToken: pad, type (2; 0 to 4), ID length (4), time stamp (4; with types 3
 /// and 4 only), ID.
-pub(crate) fn read_get_session_token(
+pub(crate) fn read_get_session_token<'a>(
     alloc: Global,
-    fields: &mut Fields<'_>,
-) -> Result<Call, ReadFault>
+    fields: &mut Fields<'a>,
+) -> Result<Call<'a>, ReadFault>
     ensures { Gives get_session_token_reader fields.old result }
 {
     fields.pad()?;
@@ -53,10 +53,10 @@ pub(crate) fn write_get_session_token(
 }
 
 /// Reads 65 FPDisconnectOldSession: pad, type (2), token length (4), token.
-pub(crate) fn read_disconnect_old_session(
+pub(crate) fn read_disconnect_old_session<'a>(
     alloc: Global,
-    fields: &mut Fields<'_>,
-) -> Result<Call, ReadFault>
+    fields: &mut Fields<'a>,
+) -> Result<Call<'a>, ReadFault>
     ensures { Gives disconnect_old_session_reader fields.old result }
 {
     fields.pad()?;

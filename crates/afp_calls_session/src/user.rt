@@ -16,7 +16,7 @@ use afp_calls_grammar::{Call, ReadFault};
 use std::alloc::Global;
 
 /// Reads 37 FPGetUserInfo: flags (1; bit 0 means this user), user ID (4), bitmap (2).
-pub(crate) fn read_get_user_info(fields: &mut Fields<'_>) -> Result<Call, ReadFault>
+pub(crate) fn read_get_user_info<'a>(fields: &mut Fields<'a>) -> Result<Call<'a>, ReadFault>
     ensures { Gives get_user_info_reader fields.old result }
 {
     let flag = fields.u8()?;
@@ -43,7 +43,7 @@ pub(crate) fn write_get_user_info(
 }
 
 /// Reads 21 FPMapID: subfunction (1; 1 to 4), ID (4).
-pub(crate) fn read_map_id(fields: &mut Fields<'_>) -> Result<Call, ReadFault>
+pub(crate) fn read_map_id<'a>(fields: &mut Fields<'a>) -> Result<Call<'a>, ReadFault>
     ensures { Gives map_id_reader fields.old result }
 {
     let function = fields.u8_within(FIRST_FUNCTION, LAST_FUNCTION)?;
@@ -64,7 +64,10 @@ pub(crate) fn write_map_id(out: &mut Bytes, function: u8, id: u32) -> Result<(),
 
 /// Reads 22 FPMapName: subfunction (1; 1 to 4), name (count 2 with subfunctions 1 and 2, count 1
 /// with 3 and 4; bytes).
-pub(crate) fn read_map_name(alloc: Global, fields: &mut Fields<'_>) -> Result<Call, ReadFault>
+pub(crate) fn read_map_name<'a>(
+    alloc: Global,
+    fields: &mut Fields<'a>,
+) -> Result<Call<'a>, ReadFault>
     ensures { Gives map_name_reader fields.old result }
 {
     let function = fields.u8_within(FIRST_FUNCTION, LAST_FUNCTION)?;

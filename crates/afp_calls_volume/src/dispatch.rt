@@ -1,8 +1,6 @@
 //! The requests about volumes, by their numbers and by their names.
-ghost use Rattle.std.specs.Prelude.{◌≡◌};
 ghost use Rattle.afp_calls_grammar.specs.Call.{IsSpellable};
 ghost use Rattle.afp_calls_grammar.specs.Group.{Volume};
-ghost use Rattle.afp_calls_grammar.specs.Reading.{has_reader};
 ghost use Rattle.afp_calls_grammar.specs.Readers.{volume_readers};
 ghost use Rattle.afp_calls_fields.specs.Taking.{GivesBy};
 ghost use Rattle.afp_calls_fields.specs.Putting.{WritesCall};
@@ -17,23 +15,13 @@ use afp_calls_grammar::commands::{CLOSE_VOL, FLUSH, GET_VOL_PARMS, OPEN_VOL, SET
 use afp_calls_grammar::{Call, ReadFault};
 use std::alloc::Global;
 
-/// The numbers of the requests about volumes.
-const COMMANDS: [u8; 5] = [OPEN_VOL, CLOSE_VOL, GET_VOL_PARMS, SET_VOL_PARMS, FLUSH];
-
-/// Whether one of these requests has that number.
-pub fn is_volume_call(command: u8) -> bool
-    ensures { result ≡ has_reader volume_readers command }
-{
-    COMMANDS.contains(&command)
-}
-
 /// Reads the request of that number, whose fields stand behind it; `Param` where no spelling of it
 /// fits, or where none of these requests has the number.
-pub fn read_volume_call(
+pub fn read_volume_call<'a>(
     alloc: Global,
     command: u8,
-    fields: &mut Fields<'_>,
-) -> Result<Call, ReadFault>
+    fields: &mut Fields<'a>,
+) -> Result<Call<'a>, ReadFault>
     ensures { GivesBy volume_readers command fields.old result }
 {
     match command {

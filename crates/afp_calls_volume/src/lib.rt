@@ -8,4 +8,4 @@
 mod dispatch;
 mod volume;
 
-pub use dispatch::{is_volume_call, read_volume_call, write_volume_call};
+pub use dispatch::{read_volume_call, write_volume_call};

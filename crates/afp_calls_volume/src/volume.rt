@@ -13,7 +13,10 @@ use afp_calls_grammar::{Call, ReadFault};
 use std::alloc::Global;
 
 /// Reads 24 FPOpenVol: pad, bitmap (2), volume name (Pascal string).
-pub(crate) fn read_open_vol(alloc: Global, fields: &mut Fields<'_>) -> Result<Call, ReadFault>
+pub(crate) fn read_open_vol<'a>(
+    alloc: Global,
+    fields: &mut Fields<'a>,
+) -> Result<Call<'a>, ReadFault>
     ensures { Gives open_vol_reader fields.old result }
 {
     fields.pad()?;
@@ -36,7 +39,7 @@ pub(crate) fn write_open_vol(out: &mut Bytes, bits: u16, name: &Bytes) -> Result
 }
 
 /// Reads 2 FPCloseVol: pad, volume ID (2).
-pub(crate) fn read_close_vol(fields: &mut Fields<'_>) -> Result<Call, ReadFault>
+pub(crate) fn read_close_vol<'a>(fields: &mut Fields<'a>) -> Result<Call<'a>, ReadFault>
     ensures { Gives close_vol_reader fields.old result }
 {
     fields.pad()?;
@@ -56,7 +59,7 @@ pub(crate) fn write_close_vol(out: &mut Bytes, volume: VolumeId) -> Result<(), O
 }
 
 /// Reads 17 FPGetVolParms: pad, volume ID (2), bitmap (2).
-pub(crate) fn read_get_vol_parms(fields: &mut Fields<'_>) -> Result<Call, ReadFault>
+pub(crate) fn read_get_vol_parms<'a>(fields: &mut Fields<'a>) -> Result<Call<'a>, ReadFault>
     ensures { Gives get_vol_parms_reader fields.old result }
 {
     fields.pad()?;
@@ -82,7 +85,10 @@ pub(crate) fn write_get_vol_parms(
 }
 
 /// Reads 32 FPSetVolParms: pad, volume ID (2), bitmap (2), backup date (all that remains).
-pub(crate) fn read_set_vol_parms(alloc: Global, fields: &mut Fields<'_>) -> Result<Call, ReadFault>
+pub(crate) fn read_set_vol_parms<'a>(
+    alloc: Global,
+    fields: &mut Fields<'a>,
+) -> Result<Call<'a>, ReadFault>
     ensures { Gives set_vol_parms_reader fields.old result }
 {
     fields.pad()?;
@@ -111,7 +117,7 @@ pub(crate) fn write_set_vol_parms(
 }
 
 /// Reads 10 FPFlush: pad, volume ID (2).
-pub(crate) fn read_flush(fields: &mut Fields<'_>) -> Result<Call, ReadFault>
+pub(crate) fn read_flush<'a>(fields: &mut Fields<'a>) -> Result<Call<'a>, ReadFault>
     ensures { Gives flush_reader fields.old result }
 {
     fields.pad()?;
