@@ -99,6 +99,17 @@ impl Name {
     pub fn key(&self, alloc: Global) -> Result<Bytes, OutOfMemory>
         ensures { IfOk result (λ key. key ≡ name_key self.now) }
     {
+        let mut room = [0; LONGEST_NAME];
+        match self.ascii_key(&mut room) {
+            Some(len) => Bytes::of(alloc, &room[..len]),
+            None => self.folded_key(alloc),
+        }
+    }
+
+    /// The key, whatever the characters are.
+    fn folded_key(&self, alloc: Global) -> Result<Bytes, OutOfMemory>
+        ensures { IfOk result (λ key. key ≡ name_key self.now) }
+    {
         let decomposed = to_nfd(alloc, self.text.as_str())?;
         let folded = default_case_fold_str(alloc, decomposed.as_str())?;
         let key = to_nfd(alloc, folded.as_str())?;

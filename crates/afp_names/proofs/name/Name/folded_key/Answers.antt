@@ -2,7 +2,7 @@ use Rattle.std.proofs.Common.{◌≡◌, chars, encode_utf8_all}
 use Rattle.unicode_normalization.specs.Forms.{nfd}
 use Rattle.caseless.specs.Caseless.{default_case_fold}
 use Rattle.afp_names.proofs.NameLemmas.{name_key-steps}
-use Rattle.afp_names.proofs.name.Name.key.Goals as goal
+use Rattle.afp_names.proofs.name.Name.folded_key.Goals as goal
 
 pub returns : goal.returns
 returns c =
