@@ -34,6 +34,27 @@ is_partitioned (b ∷ bs) index rising zero (suc j) d below within h =
     lt-ltb b.index index (omega (arith, up, ltb-true _ _ h))
 is_partitioned (b ∷ bs) index rising (suc i) (suc j) d below within h = is_partitioned bs index (rises b bs rising).rest i j d (omega arith) (omega arith) h
 
+-- a block further behind has a higher index
+pub strictly : (bs : List Block) → are_rising bs ≡ true → (i j : ℕ) (d : Block) → i < j → j < length bs → (get_or bs i d).index < (get_or bs j d).index
+strictly [] rising i j d low within = absurd (omega arith)
+strictly (b ∷ bs) rising zero zero d low within = absurd (omega arith)
+strictly (b ∷ bs) rising (suc i) zero d low within = absurd (omega arith)
+strictly (b ∷ bs) rising zero (suc j) d low within = ltb-true _ _ (all-at (λ c. nat_lt b.index c.index) bs (rises b bs rising).above j d (omega arith))
+strictly (b ∷ bs) rising (suc i) (suc j) d low within = strictly bs (rises b bs rising).rest i j d (omega arith) (omega arith)
+
+-- a block stands at the place of its index
+pub at-its-index : (bs : List Block) (index p : ℕ) → are_rising bs ≡ true → p < length bs → ((d : Block) → (get_or bs p d).index ≡ index) → IsPlace bs index p
+at-its-index bs index p rising within is = (
+  λ k d low high. let up = strictly bs rising k p d high within in lt-ltb (get_or bs k d).index index (omega (arith, up, is d)),
+  λ k d low high. by k d low high (nat_lt (get_or bs k d).index index) refl,
+)
+  where
+    by : (k : ℕ) (d : Block) → p ≤ k → k < length bs → (under : Bool) → nat_lt (get_or bs k d).index index ≡ under → nat_lt (get_or bs k d).index index ≡ false
+    by k d low high false at = at
+    by k d low high true at =
+        let own = ltb-true (get_or bs p d).index index (is_partitioned bs index rising p k d low high at) in
+        absurd (omega (arith, own, is d))
+
 pub behind-place : (b : Block) (bs : List Block) (index p : ℕ) → IsPlace (b ∷ bs) index (suc p) → IsPlace bs index p
 behind-place b bs index p place = (λ k d low high. place.0 (suc k) d (omega arith) (omega arith), λ k d low high. place.1 (suc k) d (omega arith) (omega arith))
 

@@ -78,8 +78,20 @@ impl Fork {
     }
 }
 
-/// How many of the blocks have an index below this one, where indexes rise.
+/// How many of the blocks have an index below this one, where indexes rise. In a fork without a block of zeros that is the
+/// index itself, and nothing is looked for.
 pub(crate) fn place_of(blocks: &[Block], index: u32) -> usize
+    ensures within { result ≤ length blocks.now }
+    ensures place { are_rising blocks.now ≡ true → IsPlace blocks.now index result }
+{
+    if has_at(blocks, index as usize, index) {
+        return index as usize;
+    }
+    place_among(blocks, index)
+}
+
+/// The same, by halving.
+fn place_among(blocks: &[Block], index: u32) -> usize
     ensures within { result ≤ length blocks.now }
     ensures place { are_rising blocks.now ≡ true → IsPlace blocks.now index result }
 {

@@ -1,9 +1,5 @@
-use Rattle.std.proofs.Common.{nat_lt, rules}
-use Rattle.std.proofs.lemmas.List.Sorted.{IsPartitionPoint-from_clause}
-use Rattle.fork_bytes.proofs.Places.{is_partitioned}
+use Rattle.fork_bytes.proofs.Places.{at-its-index}
 use Rattle.fork_bytes.proofs.fork.place_of.Goals as goal
 
-pub returns-clause-place : goal.returns-clause-place
-returns-clause-place c rising =
-    IsPartitionPoint-from_clause (λ b. nat_lt b.index c.args.index) c.args.blocks.now _ c.partition_point.ensures.partitioned
-    (is_partitioned c.args.blocks.now c.args.index rising) (λ x b f' k. search rules)
+pub returns-then-has_at-clause-place : goal.returns-then-has_at-clause-place
+returns-then-has_at-clause-place c rising = at-its-index c.args.blocks.now c.args.index c.args.index rising (c.has_at.ensures.within c.if-has_at.true) (c.has_at.ensures.found c.if-has_at.true)
