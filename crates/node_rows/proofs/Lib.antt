@@ -1,8 +1,11 @@
 pub mod Halving
+pub mod KindCounts
 pub mod Sorting
 pub mod Siblings
 pub mod Parents
 pub mod Keeping
 pub mod Leaving
 pub mod Asked
+pub mod Behind
+pub mod ChildKinds
 pub mod SortedOnce

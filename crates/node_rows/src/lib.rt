@@ -3,6 +3,7 @@
 
 mod child;
 mod edit;
+mod kinds;
 mod node;
 mod order;
 mod rows;

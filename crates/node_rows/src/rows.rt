@@ -1,5 +1,5 @@
 //! The nodes of a volume.
-ghost use Rattle.std.specs.Prelude.{◌≡◌, ◌+◌, ◌<◌, ◌≤◌, ◌^◌, ◌++◌, ◌∷◌, [], true, false, None, Some, length, map, nat_lt, MatchOption, option_map, slice_get, min, IfOk, OnOk, vec_len, vec_capacity};
+ghost use Rattle.std.specs.Prelude.{◌≡◌, ◌+◌, ◌<◌, ◌≤◌, ◌^◌, ◌++◌, ◌∷◌, [], true, false, None, Some, length, map, nat_lt, MatchOption, option_map, slice_get, min, not, insert, IfOk, OnOk, vec_len, vec_capacity};
 ghost use Rattle.std.specs.Option.{option_copied};
 ghost use Rattle.std.specs.List.{list_all};
 ghost use Rattle.afp_names.specs.Name.{name_key};
@@ -12,13 +12,16 @@ ghost use Rattle.volume_spec.specs.VolumeState.{Row, first_id, root_id};
 ghost use Rattle.volume_spec.specs.Walk.{child_by_key, row_at};
 ghost use Rattle.node_rows.specs.Children.{child_of, child_order, children_of};
 ghost use Rattle.node_rows.specs.Kept.{admitted, marked};
-ghost use Rattle.node_rows.specs.lemma.Places.{is_apart};
+ghost use Rattle.node_rows.specs.Kinds.{IsPlaceBehind, are_of_kind};
+ghost use Rattle.node_rows.specs.lemma.Kinds.{child_kinds, is_file};
+ghost use Rattle.node_rows.specs.lemma.Places.{is_apart, place_for};
 
 use crate::child::Child;
 use crate::edit::{put_at, put_child, put_node, set_marks, take_child};
+use crate::kinds::Kinds;
 use crate::node::{Marks, Node};
 use crate::order::sort;
-use crate::search::{find_child, find_node, nth_child, siblings};
+use crate::search::{find_child, find_node, nth_child, sibling_places, siblings};
 use afp_base::{Bytes, NodeId, OutOfMemory};
 use afp_names::Name;
 use std::alloc::Global;
@@ -32,19 +35,20 @@ use std::marker::Model;
 pub struct Rows {
     nodes: Vec<Node>,
     children: Vec<Child>,
+    kinds: Kinds,
     next: u64,
 }
 
 impl Model for Rows {
     ghost use Rattle.std.specs.Prelude.{◌-◌, min, vec_capacity, vec_len};
     ghost use Rattle.node_rows.specs.Kept.{RowsValue};
-    ghost use Rattle.node_rows.specs.lemma.Kept.{AreKept};
+    ghost use Rattle.node_rows.specs.lemma.Kept.{AreAllKept};
 
     ghost Value = { RowsValue };
 
-    ghost view = { λ a. record { rows = a.nodes.items; next_id = a.next; spare = min (vec_capacity a.nodes - vec_len a.nodes) (vec_capacity a.children - vec_len a.children) } };
+    ghost view = { λ a. record { rows = a.nodes.items; next_id = a.next; spare = min (min (vec_capacity a.nodes - vec_len a.nodes) (vec_capacity a.children - vec_len a.children)) a.kinds.spare } };
 
-    ghost invariant = { λ a. AreKept a.nodes.items a.children.items a.next };
+    ghost invariant = { λ a. AreAllKept a.nodes.items a.children.items a.kinds.kinds a.next };
 }
 
 impl Rows {
@@ -61,9 +65,11 @@ impl Rows {
         children.push(child)?;
         let mut nodes = Vec::new(alloc);
         nodes.push(root)?;
+        let kinds = kinds_of(alloc, nodes.as_slice(), children.as_slice())?;
         Ok(Rows {
             nodes,
             children,
+            kinds,
             next,
         })
     }
@@ -81,9 +87,11 @@ impl Rows {
     {
         let mut children = children_of(alloc, nodes.as_slice())?;
         sort(&mut children);
+        let kinds = kinds_of(alloc, nodes.as_slice(), children.as_slice())?;
         Ok(Rows {
             nodes,
             children,
+            kinds,
             next,
         })
     }
@@ -117,6 +125,23 @@ impl Rows {
         ensures { result.now ≡ map child_of (listed self.now.rows dir.0) }
     {
         siblings(self.children.as_slice(), dir)
+    }
+
+    /// The place in a directory's list, from another place on, of the file behind `skip` other files, or of the directory behind
+    /// `skip` other directories. It is found by three halvings, whatever stands before it.
+    pub fn place_behind(&self, dir: NodeId, files: bool, from: usize, skip: usize) -> Option<usize>
+        ensures { IsPlaceBehind (are_of_kind files (listed self.now.rows dir.0)) from skip result }
+    {
+        let (first, behind) = sibling_places(self.children.as_slice(), dir);
+        if skip >= (behind - first).saturating_sub(from) {
+            return None;
+        }
+        let place = self.kinds.find(files, first + from, behind, skip);
+        if place < behind {
+            Some(place - first)
+        } else {
+            None
+        }
     }
 
     /// How many nodes there are.
@@ -161,6 +186,7 @@ impl Rows {
     {
         self.nodes.reserve(1)?;
         self.children.reserve(1)?;
+        self.kinds.reserve()?;
         Ok(())
     }
 
@@ -174,7 +200,13 @@ impl Rows {
         ensures next { self.new.next_id ≡ self.old.next_id + 1 }
         ensures spare { self.old.spare ≤ self.new.spare + 1 }
     {
-        put_both(&mut self.nodes, &mut self.children, node, key);
+        put_all(
+            &mut self.nodes,
+            &mut self.children,
+            &mut self.kinds,
+            node,
+            key,
+        );
         self.next += 1;
     }
 
@@ -190,7 +222,13 @@ impl Rows {
         ensures next { self.new.next_id ≡ self.old.next_id }
         ensures spare { self.old.spare ≤ self.new.spare + 1 }
     {
-        put_both(&mut self.nodes, &mut self.children, node, key);
+        put_all(
+            &mut self.nodes,
+            &mut self.children,
+            &mut self.kinds,
+            node,
+            key,
+        );
     }
 
     /// Gives the node of an id other marks, where there is one.
@@ -213,7 +251,8 @@ impl Rows {
     {
         match find_node(self.nodes.as_slice(), id) {
             Some(place) => {
-                take_child(&mut self.children, &self.nodes[place]);
+                let stood = take_child(&mut self.children, &self.nodes[place]);
+                self.kinds.remove(stood);
                 let _node = self.nodes.remove(place);
             }
             None => {}
@@ -231,8 +270,11 @@ impl Rows {
         match find_node(self.nodes.as_slice(), id) {
             Some(place) => {
                 let node = &self.nodes[place];
-                take_child(&mut self.children, node);
-                put_child(&mut self.children, Child { parent, key, id });
+                let file = !node.dir;
+                let stood = take_child(&mut self.children, node);
+                self.kinds.remove(stood);
+                let stands = put_child(&mut self.children, Child { parent, key, id });
+                self.kinds.insert(stands, file);
                 put_at(&mut self.nodes, place, parent, name);
             }
             None => {}
@@ -263,21 +305,58 @@ fn child_of(alloc: Global, node: &Node) -> Result<Child, OutOfMemory>
     })
 }
 
-/// Puts a node at the place of its id, and its child at that of its parent and key.
-fn put_both(nodes: &mut Vec<Node>, children: &mut Vec<Child>, node: Node, key: Bytes)
+/// Whether the node of an id is a file.
+fn is_file(nodes: &[Node], id: NodeId) -> bool
+    requires { has_rising_ids nodes.now ≡ true }
+    ensures { result ≡ is_file (row_at nodes.now id.0) }
+{
+    match find_node(nodes, id) {
+        Some(place) => {
+            let node = &nodes[place];
+            !node.dir
+        }
+        None => false,
+    }
+}
+
+/// The kinds of children, in their order.
+fn kinds_of(alloc: Global, nodes: &[Node], children: &[Child]) -> Result<Kinds, OutOfMemory>
+    requires { has_rising_ids nodes.now ≡ true }
+    ensures { IfOk result (λ kinds. kinds.kinds ≡ child_kinds nodes.now children.now) }
+{
+    let mut kinds = Kinds::new(alloc);
+    for i in 0..children.len() {
+        kinds.reserve()?;
+        kinds.insert(i, is_file(nodes, children[i].id));
+    }
+    Ok(kinds)
+}
+
+/// Puts a node at the place of its id, and its child and kind at that of its parent and key.
+fn put_all(
+    nodes: &mut Vec<Node>,
+    children: &mut Vec<Child>,
+    kinds: &mut Kinds,
+    node: Node,
+    key: Bytes,
+)
     requires rising { has_rising_ids nodes.old.items ≡ true }
     requires order { rises child_order children.old.items ≡ true }
     requires new { row_at nodes.old.items node.id ≡ None }
     requires key { key ≡ name_key node.name }
     requires free { list_all (is_apart (child_of node)) children.old.items ≡ true }
+    requires kinds { length kinds.old.kinds ≡ length children.old.items }
     requires nodes_room { vec_len nodes.old < vec_capacity nodes.old }
     requires children_room { vec_len children.old < vec_capacity children.old }
+    requires kinds_room { 1 ≤ kinds.old.spare }
     ensures nodes { nodes.new.items ≡ admitted node nodes.old.items }
     ensures children { children.new.items ≡ put_in child_order (child_of node) children.old.items }
+    ensures kinds { kinds.new.kinds ≡ insert kinds.old.kinds (place_for (child_of node) children.old.items) (not node.dir) }
     ensures nodes_len { vec_len nodes.new ≡ vec_len nodes.old + 1 }
     ensures nodes_capacity { vec_capacity nodes.old ≤ vec_capacity nodes.new }
     ensures children_len { vec_len children.new ≡ vec_len children.old + 1 }
     ensures children_capacity { vec_capacity children.old ≤ vec_capacity children.new }
+    ensures kinds_spare { kinds.old.spare ≤ kinds.new.spare + 1 }
     ensures id { node.id < 2 ^ 32 }
 {
     let child = Child {
@@ -285,6 +364,7 @@ fn put_both(nodes: &mut Vec<Node>, children: &mut Vec<Child>, node: Node, key: B
         key,
         id: node.id,
     };
-    put_child(children, child);
+    let stands = put_child(children, child);
+    kinds.insert(stands, !node.dir);
     put_node(nodes, node);
 }

@@ -111,7 +111,7 @@ fn parent_place(children: &[Child], bound: u64) -> usize
 }
 
 /// The place of the first child of this parent, and the place behind the last one.
-fn sibling_places(children: &[Child], parent: NodeId) -> (usize, usize)
+pub(crate) fn sibling_places(children: &[Child], parent: NodeId) -> (usize, usize)
     requires { rises child_order children.now ≡ true }
     ensures { IsPart children.now parent.0 result.0 result.1 }
 {

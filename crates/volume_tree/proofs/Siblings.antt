@@ -1,5 +1,5 @@
 -- The children of a directory: the same with forks and without; how many; each by its place.
-use Rattle.std.proofs.Common.{◌≡◌, ◌∙◌, ap, sym, refl, ℕ, suc, ◌+◌, ◌<◌, List, [], ◌∷◌, map, length, drop, Option, Some, None, add-one}
+use Rattle.std.proofs.Common.{◌≡◌, ◌∙◌, ap, sym, refl, ℕ, suc, ◌+◌, ◌<◌, Bool, List, [], ◌∷◌, map, length, drop, Option, Some, None, add-one}
 use Rattle.std.specs.Prelude.{option_map, slice_get, slice_index_or}
 use Rattle.std.proofs.Math.Seq.{drop-cons}
 use Rattle.std.proofs.lemmas.Bool.{cond_both}
@@ -14,6 +14,7 @@ use Rattle.volume_spec.specs.SoundVolume.{IsSoundVolume}
 use Rattle.volume_spec.specs.VolumeState.{Row, VolumeState}
 use Rattle.volume_spec.specs.Walk.{row_at}
 use Rattle.node_rows.specs.Children.{child_of}
+use Rattle.node_rows.specs.Kinds.{are_of_kind, is_of_kind}
 use Rattle.node_rows.specs.declared.child.Child.{Child}
 use Rattle.volume_tree.proofs.Showing.{shown-bare}
 use Rattle.volume_tree.specs.Kept.{Forks, rows_of}
@@ -27,6 +28,16 @@ siblings-shown forks rows dir =
     sym (children-bare (listed (rows_of forks rows) dir))
     ∙ ap (λ l. map child_of l) (sym (lists-bare (rows_of forks rows) dir) ∙ ap (λ l. listed l dir) (shown-bare forks rows) ∙ lists-bare rows dir)
     ∙ children-bare (listed rows dir)
+
+kinds-bare : (files : Bool) (rows : List Row) → are_of_kind files (map bare rows) ≡ are_of_kind files rows
+kinds-bare files [] = refl
+kinds-bare files (row ∷ rows) = ap (λ l. is_of_kind files row ∷ l) (kinds-bare files rows)
+
+pub kinds-shown : (files : Bool) (forks : Forks) (rows : List Row) (dir : ℕ) → are_of_kind files (listed (rows_of forks rows) dir) ≡ are_of_kind files (listed rows dir)
+kinds-shown files forks rows dir =
+    sym (kinds-bare files (listed (rows_of forks rows) dir))
+    ∙ ap (are_of_kind files) (sym (lists-bare (rows_of forks rows) dir) ∙ ap (λ l. listed l dir) (shown-bare forks rows) ∙ lists-bare rows dir)
+    ∙ kinds-bare files (listed rows dir)
 
 length-put : (row : Row) (rows : List Row) → length (put_in row_key row rows) ≡ suc (length rows)
 length-put row [] = refl

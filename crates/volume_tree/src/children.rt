@@ -2,6 +2,7 @@
 ghost use Rattle.std.specs.Prelude.{◌≡◌, length, map};
 ghost use Rattle.volume_spec.specs.Listing.{children, listed};
 ghost use Rattle.node_rows.specs.Children.{child_of};
+ghost use Rattle.node_rows.specs.Kinds.{IsPlaceBehind, are_of_kind};
 
 use crate::volume::Volume;
 use afp_base::NodeId;
@@ -14,6 +15,14 @@ impl Volume {
         ensures { result.now ≡ map child_of (listed self.now.state.rows dir.0) }
     {
         self.rows.siblings(dir)
+    }
+
+    /// The place in a directory's list, from another place on, of the file behind `skip` other files, or of the directory behind
+    /// `skip` other directories. It is found by three halvings, whatever stands before it.
+    pub fn place_behind(&self, dir: NodeId, files: bool, from: usize, skip: usize) -> Option<usize>
+        ensures { IsPlaceBehind (are_of_kind files (listed self.now.state.rows dir.0)) from skip result }
+    {
+        self.rows.place_behind(dir, files, from, skip)
     }
 
     /// How many children a directory has. It costs two halvings.

@@ -1,5 +1,5 @@
 -- A list is filled child by child.
-use Rattle.std.proofs.Common.{◌≡◌, ◌∙◌, ap, sym, refl, subst, ℕ, zero, suc, ◌+◌, ◌-◌, ◌==◌, ◌||◌, ◌≤◌, ◌<◌, min, arith, Bool, true, false, cond, List, [], ◌∷◌, ◌++◌, length, map, take, drop, Option, Some, None}
+use Rattle.std.proofs.Common.{◌≡◌, ◌∙◌, ap, sym, refl, ℕ, zero, suc, ◌+◌, ◌-◌, ◌==◌, ◌||◌, ◌≤◌, ◌<◌, min, arith, Bool, true, false, cond, List, [], ◌∷◌, ◌++◌, length, map, take, drop, Option, Some, None}
 use Rattle.std.specs.Prelude.{nat_le, option_map, slice_get, slice_index_or, if◌then◌else◌}
 use Rattle.std.specs.List.{Contains, filter, find, list_any}
 use Rattle.std.proofs.Math.Seq.{drop-cons, take-length}
@@ -118,11 +118,13 @@ module _ (rows : List Row) (opens : List Opened) (asked : ListAsked) (dir first 
         by zero = refl
         by (suc left) = cond-false (can_follow asked used (entry_size rows opens asked row)) (row ∷ front (entry_size rows opens asked) asked (used + entry_size rows opens asked row) left (counted_from rows asked dir (suc i))) [] unfit
 
-    -- one that does not count is passed over
-    pub passes : (out : List ℕ) → SoFar rows opens asked dir first old out i used count → is_counted asked row ≡ false → SoFar rows opens asked dir first old out (suc i) used count
-    passes out s other =
-        let same : filled rows opens asked dir i used (asked.count - count) ≡ filled rows opens asked dir (suc i) used (asked.count - count) =
-        ap (λ l. front (entry_size rows opens asked) asked used (asked.count - count) l) (next false other) in
+    -- from the next that counts on
+    pub jumps : (out : List ℕ) (further : ℕ) → SoFar rows opens asked dir first old out i used count → is_counted asked row ≡ false → counted_from rows asked dir further ≡ counted_from rows asked dir (i + 1)
+        → SoFar rows opens asked dir first old out further used count
+    jumps out further s other on =
+        let one : suc i ≡ i + 1 = omega arith in
+        let same : filled rows opens asked dir i used (asked.count - count) ≡ filled rows opens asked dir further used (asked.count - count) =
+        ap (λ l. front (entry_size rows opens asked) asked used (asked.count - count) l) (next false other ∙ ap (counted_from rows asked dir) one ∙ sym on) in
         record {
           few = s.few;
           room = s.room;
@@ -130,6 +132,16 @@ module _ (rows : List Row) (opens : List Opened) (asked : ListAsked) (dir first 
           many = s.many ∙ ap (λ (l : List Row). count + length l) same;
           stays = s.stays;
         }
+
+    -- no more that count are there
+    pub none-counts : is_counted asked row ≡ false → length (counted_from rows asked dir (i + 1)) ≤ 0 → filled rows opens asked dir i used (asked.count - count) ≡ []
+    none-counts other few =
+        let one : suc i ≡ i + 1 = omega arith in
+        ap (λ l. front (entry_size rows opens asked) asked used (asked.count - count) l) (next false other ∙ ap (counted_from rows asked dir) one ∙ nothing (counted_from rows asked dir (i + 1)) few)
+      where
+        nothing : (l : List Row) → length l ≤ 0 → l ≡ []
+        nothing [] few = refl
+        nothing (x ∷ l) few = absurd (omega arith)
 
     -- one that counts is put
     pub puts : (out new : List ℕ) (more : ℕ) → SoFar rows opens asked dir first old out i used count → is_counted asked row ≡ true → (count ≡ asked.count → ⊥) → IsPut rows opens asked row used out new (Some more)
@@ -159,11 +171,3 @@ module _ (rows : List Row) (opens : List Opened) (asked : ListAsked) (dir first 
 
         long : (l : List ℕ) → take (length old) l ≡ old → length old ≤ length l
         long l is = let size : min (length old) (length l) ≡ length old = sym (length-take (length old) l) ∙ ap length is in omega arith
-
-  pub same-so-far : (out at_out : List ℕ) (i at_i used at_used count at_count : ℕ) → SoFar rows opens asked dir first old out i used count → at_out ≡ out → at_i ≡ i → at_used ≡ used → at_count ≡ count
-      → SoFar rows opens asked dir first old at_out at_i at_used at_count
-  same-so-far out at_out i at_i used at_used count at_count s out_is i_is used_is count_is =
-      subst (λ o. SoFar rows opens asked dir first old o at_i at_used at_count) (sym out_is)
-      (subst (λ n. SoFar rows opens asked dir first old out n at_used at_count) (sym i_is)
-      (subst (λ n. SoFar rows opens asked dir first old out i n at_count) (sym used_is)
-      (subst (λ n. SoFar rows opens asked dir first old out i used n) (sym count_is) s)))

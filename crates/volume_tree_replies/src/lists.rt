@@ -54,6 +54,60 @@ fn start(asked: &ListAsked) -> u32
     asked.start
 }
 
+/// Whether every child counts: something is asked of files and of directories.
+fn counts_all(asked: &ListAsked) -> bool
+    ensures { result ≡ (not (asked.now.file_bits == 0) && not (asked.now.dir_bits == 0)) }
+{
+    asked.file_bits != 0 && asked.dir_bits != 0
+}
+
+/// Whether no child counts: nothing is asked of files, nor of directories.
+fn counts_none(asked: &ListAsked) -> bool
+    ensures { result ≡ ((asked.now.file_bits == 0) && (asked.now.dir_bits == 0)) }
+{
+    asked.file_bits == 0 && asked.dir_bits == 0
+}
+
+/// Whether files count.
+fn counts_files(asked: &ListAsked) -> bool
+    ensures { result ≡ not (asked.now.file_bits == 0) }
+{
+    asked.file_bits != 0
+}
+
+/// The place, from another one on, of the child that counts behind `skip` others that count; `None` where no more are there. No
+/// child is passed over: where every one counts the place is known at once, and else it is found by halving.
+fn place_behind(
+    volume: &Volume,
+    asked: &ListAsked,
+    dir: NodeId,
+    from: usize,
+    skip: usize,
+) -> Option<usize>
+    ensures { IsBehind volume.now.state.rows asked.now dir.0 from skip result }
+{
+    if counts_none(asked) {
+        return None;
+    }
+    if !counts_all(asked) {
+        return volume.place_behind(dir, counts_files(asked), from, skip);
+    }
+    if skip < volume.siblings(dir).len().saturating_sub(from) {
+        Some(from + skip)
+    } else {
+        None
+    }
+}
+
+/// The place of the child with which a list begins.
+fn start_place(volume: &Volume, asked: &ListAsked, dir: NodeId) -> Option<usize>
+    requires { 0 < asked.now.start }
+    ensures { IsStart volume.now.state.rows asked.now dir.0 result }
+{
+    let skip = start(asked) as usize - 1;
+    place_behind(volume, asked, dir, 0, skip)
+}
+
 /// Appends the entries of the children of a directory that count, from the child at a place on, as many as are asked and fit, and
 /// answers how many these are. After an error, some of them may stand there.
 fn fill(
@@ -76,7 +130,8 @@ fn fill(
     let most = most(asked);
     let mut used = LIST_HEAD;
     let mut count = 0;
-    for i in first..siblings.len() {
+    let mut i = first;
+    while i < siblings.len() {
         let child = &siblings[i];
         let node = node_at(volume, child.id);
         if is_counted(asked, node) {
@@ -87,56 +142,19 @@ fn fill(
                 Ok(Some(more)) => {
                     used = more;
                     count += 1;
+                    i += 1;
                 }
                 Ok(None) => return Ok(count),
                 Err(error) => return Err(error),
             }
+        } else {
+            match place_behind(volume, asked, dir, i + 1, 0) {
+                Some(next) => i = next,
+                None => return Ok(count),
+            }
         }
     }
     Ok(count)
-}
-
-/// Whether every child counts: something is asked of files and of directories.
-fn counts_all(asked: &ListAsked) -> bool
-    ensures { result ≡ (not (asked.now.file_bits == 0) && not (asked.now.dir_bits == 0)) }
-{
-    asked.file_bits != 0 && asked.dir_bits != 0
-}
-
-/// The place of the child that counts behind `skip` others that count; `None` where no more are there.
-fn place_behind(volume: &Volume, asked: &ListAsked, dir: NodeId, skip: usize) -> Option<usize>
-    ensures { IsBehind volume.now.state.rows asked.now dir.0 skip result }
-{
-    volume.keeps_sound();
-    let siblings = volume.siblings(dir);
-    let mut left = skip;
-    for i in 0..siblings.len() {
-        let child = &siblings[i];
-        if is_counted(asked, node_at(volume, child.id)) {
-            if left == 0 {
-                return Some(i);
-            }
-            left -= 1;
-        }
-    }
-    None
-}
-
-/// The place of the child with which a list begins. Where every child counts it is known at once; else children are passed over,
-/// one by one.
-fn start_place(volume: &Volume, asked: &ListAsked, dir: NodeId) -> Option<usize>
-    requires { 0 < asked.now.start }
-    ensures { IsStart volume.now.state.rows asked.now dir.0 result }
-{
-    let skip = start(asked) as usize - 1;
-    if !counts_all(asked) {
-        return place_behind(volume, asked, dir, skip);
-    }
-    if skip < volume.siblings(dir).len() {
-        Some(skip)
-    } else {
-        None
-    }
 }
 
 /// Appends a list: the bits, how many entries there are, and the entries of the children of a directory from a place on, as many

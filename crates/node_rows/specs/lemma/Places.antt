@@ -1,6 +1,7 @@
 -- Places of rows and of children, as the search finds them.
 use Rattle.std.specs.Prelude.{◌≡◌, ℕ, ◌≤◌, ◌<◌, Bool, not, ◌&&◌, ◌==◌, bytes_eq, List, length, ◌-◌, take, drop, Option, Some, None, slice_get}
-use Rattle.std.specs.List.{filter}
+use Rattle.std.specs.List.{filter, position_or_len}
+use Rattle.volume_spec.specs.Order.{stands_before}
 use Rattle.volume_spec.specs.VolumeState.{Row}
 use Rattle.volume_spec.specs.Walk.{row_at}
 use Rattle.node_rows.specs.Children.{child_of, child_order}
@@ -26,6 +27,10 @@ is_other id child = not (child.id.0 == id)
 -- whether a child has another parent or another key
 abbrev pub is_apart : Child → Child → Bool
 is_apart a b = not (bytes_eq (child_order a) (child_order b))
+
+-- the place at which a child is put
+abbrev pub place_for : Child → List Child → ℕ
+place_for child children = position_or_len (λ c. not (stands_before (child_order c) (child_order child))) children
 
 -- the children of a parent stand from this place on, and end before that one
 pub record IsPart (children : List Child) (parent first behind : ℕ) : Type 0 where

@@ -60,7 +60,10 @@ list_refusal v opens asked id = first_holding (
     ∷ (not (fits_reply v.rows opens asked (take 1 (from_start v.rows asked id))), ParamErr)
     ∷ [])
 
--- the place of the child that counts behind so many others that count; none where no more are there
-abbrev pub IsBehind : List Row → ListAsked → ℕ → ℕ → Option ℕ → Type 0
-IsBehind rows asked dir skip None = length (counted_children rows asked dir) ≤ skip
-IsBehind rows asked dir skip (Some place) = (skip < length (counted_children rows asked dir)) × (counted_from rows asked dir place ≡ drop skip (counted_children rows asked dir))
+-- the place, from another one on, of the child that counts behind so many others that count; none where no more are there
+abbrev pub IsBehind : List Row → ListAsked → ℕ → ℕ → ℕ → Option ℕ → Type 0
+IsBehind rows asked dir from skip None = length (counted_from rows asked dir from) ≤ skip
+IsBehind rows asked dir from skip (Some place) =
+    (from ≤ place)
+    × (skip < length (counted_from rows asked dir from))
+    × (counted_from rows asked dir place ≡ drop skip (counted_from rows asked dir from))

@@ -2,11 +2,10 @@ use Rattle.std.proofs.Common.{◌≡◌, ◌∙◌, ◌+◌, suc, ap, sym, subst
 use Rattle.std.proofs.lemmas.List.{length-map}
 use Rattle.volume_spec.specs.Listing.{listed}
 use Rattle.node_rows.specs.Children.{child_of}
-use Rattle.volume_tree_replies.proofs.Filled.{child-here, counts-row, begins, ends, none-asked, none-there, none-fits, passes, puts, same-so-far}
+use Rattle.volume_tree_replies.proofs.Filled.{child-here, counts-row, begins, ends, none-asked, none-there, none-fits, none-counts, jumps, puts, SoFar}
 use Rattle.volume_tree_replies.specs.lemma.Filling.{IsPut}
 use Rattle.volume_tree.specs.Shown.{opened}
 use Rattle.volume_tree_replies.proofs.lists.fill.Goals as goal
-use Rattle.volume_tree_replies.proofs.lists.fill.Goals.{then-is_counted+else-count-most+in-Ok-Some, else-is_counted}
 
 pub loop-i-init : goal.loop-i-init
 loop-i-init c = begins c.args.volume.now.state.rows (opened c.args.opens.now) c.args.asked.now c.args.dir.0 c.args.first c.args.out.now
@@ -59,27 +58,40 @@ returns-in-Ok-None-clause-bytes c =
 pub returns-in-Err-clause-err : goal.returns-in-Err-clause-err
 returns-in-Err-clause-err c = ap (λ l. take (length c.args.out.now) l) c.in-Err.ensures.err ∙ c.loop-i.invariant.stays
 
+pub returns-in-None-clause-count : goal.returns-in-None-clause-count
+returns-in-None-clause-count c =
+    let h = child-here c.args.volume.now.state c.args.dir.0 c.loop-i.i c.siblings-siblings.result.now c.index-siblings-i.result c.keeps_sound.ensures c.siblings-siblings.ensures c.loop-i-test.true c.index-siblings-i.is in
+    let of_row = c.node_at-node.ensures h.row h.at_id in
+    let counts = counts-row c.args.volume.now.state.rows c.args.asked.now c.node_at-node.result.now h.row c.is_counted.result of_row c.is_counted.ensures ∙ c.if-is_counted.false in
+    (ends c.args.volume.now.state.rows (opened c.args.opens.now) c.args.asked.now c.args.dir.0 c.args.first c.args.out.now c.loop-i.out c.loop-i.i c.loop-i.used c.loop-i.count c.loop-i.invariant
+    (none-counts c.args.volume.now.state.rows (opened c.args.opens.now) c.args.asked.now c.args.dir.0 c.args.first c.args.out.now c.loop-i.i c.loop-i.used c.loop-i.count h.row h.rest counts c.in-None.ensures)).0
+
+pub returns-in-None-clause-bytes : goal.returns-in-None-clause-bytes
+returns-in-None-clause-bytes c =
+    let h = child-here c.args.volume.now.state c.args.dir.0 c.loop-i.i c.siblings-siblings.result.now c.index-siblings-i.result c.keeps_sound.ensures c.siblings-siblings.ensures c.loop-i-test.true c.index-siblings-i.is in
+    let of_row = c.node_at-node.ensures h.row h.at_id in
+    let counts = counts-row c.args.volume.now.state.rows c.args.asked.now c.node_at-node.result.now h.row c.is_counted.result of_row c.is_counted.ensures ∙ c.if-is_counted.false in
+    (ends c.args.volume.now.state.rows (opened c.args.opens.now) c.args.asked.now c.args.dir.0 c.args.first c.args.out.now c.loop-i.out c.loop-i.i c.loop-i.used c.loop-i.count c.loop-i.invariant
+    (none-counts c.args.volume.now.state.rows (opened c.args.opens.now) c.args.asked.now c.args.dir.0 c.args.first c.args.out.now c.loop-i.i c.loop-i.used c.loop-i.count h.row h.rest counts c.in-None.ensures)).1
+
+pub loop-i-preserved-in-Ok-Some : goal.loop-i-preserved-in-Ok-Some
+loop-i-preserved-in-Ok-Some c =
+    let h = child-here c.args.volume.now.state c.args.dir.0 c.loop-i.i c.siblings-siblings.result.now c.index-siblings-i.result c.keeps_sound.ensures c.siblings-siblings.ensures c.loop-i-test.true c.index-siblings-i.is in
+    let of_row = c.node_at-node.ensures h.row h.at_id in
+    let counts = counts-row c.args.volume.now.state.rows c.args.asked.now c.node_at-node.result.now h.row c.is_counted.result of_row c.is_counted.ensures ∙ c.if-is_counted.true in
+    let put = subst (λ o. IsPut c.args.volume.now.state.rows (opened c.args.opens.now) c.args.asked.now h.row c.loop-i.used c.loop-i.out c.put_entry.new.out o) c.in-Ok-Some.field-0-is (c.in-Ok-Some.ensures.ok h.row of_row) in
+    let one : suc c.loop-i.i ≡ c.loop-i.i + 1 = omega arith in
+    subst (λ n. SoFar c.args.volume.now.state.rows (opened c.args.opens.now) c.args.asked.now c.args.dir.0 c.args.first c.args.out.now c.put_entry.new.out n c.in-Ok-Some.more (c.loop-i.count + 1)) one
+    (puts c.args.volume.now.state.rows (opened c.args.opens.now) c.args.asked.now c.args.dir.0 c.args.first c.args.out.now c.loop-i.i c.loop-i.used c.loop-i.count h.row h.rest c.loop-i.out c.put_entry.new.out c.in-Ok-Some.more
+    c.loop-i.invariant counts (λ all. c.if-count-most.false (all ∙ sym c.most-most.ensures)) put)
+
 pub loop-i-preserved : goal.loop-i-preserved
 loop-i-preserved c =
     let h = child-here c.args.volume.now.state c.args.dir.0 c.loop-i.i c.siblings-siblings.result.now c.index-siblings-i.result c.keeps_sound.ensures c.siblings-siblings.ensures c.loop-i-test.true c.index-siblings-i.is in
     let of_row = c.node_at-node.ensures h.row h.at_id in
-    let counts = counts-row c.args.volume.now.state.rows c.args.asked.now c.node_at-node.result.now h.row c.is_counted.result of_row c.is_counted.ensures in
-    let one : c.loop-i.i + 1 ≡ suc c.loop-i.i = omega arith in
-    elim c.if-is_counted.branch [
-      | then-is_counted+else-count-most+in-Ok-Some w ↦
-          let put = subst (λ o. IsPut c.args.volume.now.state.rows (opened c.args.opens.now) c.args.asked.now h.row c.loop-i.used c.loop-i.out w.put_entry.new.out o) w.in-Ok-Some.field-0-is (w.in-Ok-Some.ensures.ok h.row of_row) in
-          same-so-far c.args.volume.now.state.rows (opened c.args.opens.now) c.args.asked.now c.args.dir.0 c.args.first c.args.out.now w.put_entry.new.out c.if-is_counted.out (suc c.loop-i.i) (c.loop-i.i + 1)
-          w.in-Ok-Some.more c.if-is_counted.used (c.loop-i.count + 1) c.if-is_counted.count
-          (puts c.args.volume.now.state.rows (opened c.args.opens.now) c.args.asked.now c.args.dir.0 c.args.first c.args.out.now c.loop-i.i c.loop-i.used c.loop-i.count h.row h.rest c.loop-i.out w.put_entry.new.out w.in-Ok-Some.more
-          c.loop-i.invariant (counts ∙ w.if-is_counted.true) (λ all. w.if-count-most.false (all ∙ sym c.most-most.ensures)) put)
-          w.out-is one w.used-is w.count-is
-      | else-is_counted w ↦
-          same-so-far c.args.volume.now.state.rows (opened c.args.opens.now) c.args.asked.now c.args.dir.0 c.args.first c.args.out.now c.loop-i.out c.if-is_counted.out (suc c.loop-i.i) (c.loop-i.i + 1)
-          c.loop-i.used c.if-is_counted.used c.loop-i.count c.if-is_counted.count
-          (passes c.args.volume.now.state.rows (opened c.args.opens.now) c.args.asked.now c.args.dir.0 c.args.first c.args.out.now c.loop-i.i c.loop-i.used c.loop-i.count h.row h.rest c.loop-i.out
-          c.loop-i.invariant (counts ∙ w.if-is_counted.false))
-          w.out-is one w.used-is w.count-is
-    ]
+    let counts = counts-row c.args.volume.now.state.rows c.args.asked.now c.node_at-node.result.now h.row c.is_counted.result of_row c.is_counted.ensures ∙ c.if-is_counted.false in
+    jumps c.args.volume.now.state.rows (opened c.args.opens.now) c.args.asked.now c.args.dir.0 c.args.first c.args.out.now c.loop-i.i c.loop-i.used c.loop-i.count h.row h.rest c.loop-i.out c.in-Some.next
+    c.loop-i.invariant counts c.in-Some.ensures.2
 
 pub returns-clause-count : goal.returns-clause-count
 returns-clause-count c =

@@ -1,3 +1,4 @@
+use Rattle.std.proofs.Common.{◌-◌, length}
 use Rattle.volume_tree_replies.proofs.Filled.{SoFar}
 use Rattle.volume_tree.specs.Shown.{opened}
 use Rattle.volume_tree_replies.proofs.lists.fill.Given as goal
@@ -5,3 +6,6 @@ use Rattle.volume_tree_replies.proofs.lists.fill.Given as goal
 -- what is left of the list stands behind what was put
 abbrev pub invariant-loop-i : goal.invariant-loop-i
 invariant-loop-i l = SoFar l.fn.volume.state.rows (opened l.fn.opens) l.fn.asked l.fn.dir.0 l.fn.first l.fn.out l.out l.i l.used l.count
+
+abbrev pub decreases-loop-i : goal.decreases-loop-i
+decreases-loop-i l = length l.siblings - l.i

@@ -1,34 +1,26 @@
-use Rattle.std.proofs.Common.{◌≡◌, ◌∙◌, ◌+◌, suc, sym, subst, arith}
-use Rattle.volume_tree_replies.proofs.Filled.{child-here, counts-row}
-use Rattle.volume_tree_replies.proofs.Starting.{StillToPass, passing-begins, found-place, passes-one, passes-other}
+use Rattle.std.proofs.Common.{◌≡◌, ◌∙◌, ap, sym, length, arith}
+use Rattle.std.proofs.lemmas.List.{length-map}
+use Rattle.volume_spec.specs.Listing.{listed}
+use Rattle.node_rows.specs.Children.{child_of}
+use Rattle.volume_tree_replies.proofs.Starting.{all-behind, kind-asked, none-behind, nothing-behind}
 use Rattle.volume_tree_replies.proofs.lists.place_behind.Goals as goal
-use Rattle.volume_tree_replies.proofs.lists.place_behind.Goals.{then-is_counted+else-left-eq0, else-is_counted}
 
-pub loop-i-init : goal.loop-i-init
-loop-i-init c = passing-begins c.args.volume.now.state.rows c.args.asked.now c.args.dir.0 c.args.skip
+pub returns-then-counts_none : goal.returns-then-counts_none
+returns-then-counts_none c = nothing-behind c.args.volume.now.state.rows c.args.asked.now c.args.dir.0 c.args.from c.args.skip (sym c.counts_none.ensures ∙ c.if-counts_none.true)
 
-pub node_at-requires : goal.node_at-requires
-node_at-requires c =
-    (child-here c.args.volume.now.state c.args.dir.0 c.loop-i.i c.siblings-siblings.result.now c.index-siblings-i.result c.keeps_sound.ensures c.siblings-siblings.ensures c.loop-i-test.true c.index-siblings-i.is).there
+pub returns-then-not-counts_all : goal.returns-then-not-counts_all
+returns-then-not-counts_all c =
+    kind-asked c.args.volume.now.state.rows c.args.asked.now c.args.dir.0 c.args.from c.args.skip c.counts_files.result c.place_behind.result
+    (sym c.counts_none.ensures ∙ c.if-counts_none.false) (sym c.counts_all.ensures ∙ c.if-not-counts_all.true) c.counts_files.ensures c.place_behind.ensures
 
-pub returns-then-left-eq0 : goal.returns-then-left-eq0
-returns-then-left-eq0 c =
-    let h = child-here c.args.volume.now.state c.args.dir.0 c.loop-i.i c.siblings-siblings.result.now c.index-siblings-i.result c.keeps_sound.ensures c.siblings-siblings.ensures c.loop-i-test.true c.index-siblings-i.is in
-    let counts = counts-row c.args.volume.now.state.rows c.args.asked.now c.node_at.result.now h.row c.is_counted.result (c.node_at.ensures h.row h.at_id) c.is_counted.ensures ∙ c.if-is_counted.true in
-    found-place c.args.volume.now.state.rows c.args.asked.now c.args.dir.0 c.args.skip c.loop-i.left c.loop-i.i c.loop-i.invariant h.row h.rest counts c.if-left-eq0.true
+pub returns-then-skip-saturating_sub : goal.returns-then-skip-saturating_sub
+returns-then-skip-saturating_sub c =
+    let same : length c.siblings.result.now ≡ length (listed c.args.volume.now.state.rows c.args.dir.0) = ap length c.siblings.ensures ∙ length-map (listed c.args.volume.now.state.rows c.args.dir.0) child_of in
+    all-behind c.args.volume.now.state.rows c.args.asked.now c.args.dir.0 c.args.from c.args.skip (sym c.counts_all.ensures ∙ c.if-not-counts_all.false)
+    (omega (arith, c.saturating_sub.ensures, c.if-skip-saturating_sub.true))
 
-pub loop-i-preserved : goal.loop-i-preserved
-loop-i-preserved c =
-    let h = child-here c.args.volume.now.state c.args.dir.0 c.loop-i.i c.siblings-siblings.result.now c.index-siblings-i.result c.keeps_sound.ensures c.siblings-siblings.ensures c.loop-i-test.true c.index-siblings-i.is in
-    let counts = counts-row c.args.volume.now.state.rows c.args.asked.now c.node_at.result.now h.row c.is_counted.result (c.node_at.ensures h.row h.at_id) c.is_counted.ensures in
-    let one : suc c.loop-i.i ≡ c.loop-i.i + 1 = omega arith in
-    elim c.if-is_counted.branch [
-      | then-is_counted+else-left-eq0 w ↦
-          subst (λ n. StillToPass c.args.volume.now.state.rows c.args.asked.now c.args.dir.0 c.args.skip c.if-is_counted.left n) one
-          (subst (λ n. StillToPass c.args.volume.now.state.rows c.args.asked.now c.args.dir.0 c.args.skip n (suc c.loop-i.i)) (sym w.left-is)
-          (passes-one c.args.volume.now.state.rows c.args.asked.now c.args.dir.0 c.args.skip c.loop-i.left c.loop-i.i c.loop-i.invariant h.row h.rest (counts ∙ w.if-is_counted.true) w.if-left-eq0.false))
-      | else-is_counted w ↦
-          subst (λ n. StillToPass c.args.volume.now.state.rows c.args.asked.now c.args.dir.0 c.args.skip c.if-is_counted.left n) one
-          (subst (λ n. StillToPass c.args.volume.now.state.rows c.args.asked.now c.args.dir.0 c.args.skip n (suc c.loop-i.i)) (sym w.left-is)
-          (passes-other c.args.volume.now.state.rows c.args.asked.now c.args.dir.0 c.args.skip c.loop-i.left c.loop-i.i c.loop-i.invariant h.row h.rest (counts ∙ w.if-is_counted.false)))
-    ]
+pub returns-else-skip-saturating_sub : goal.returns-else-skip-saturating_sub
+returns-else-skip-saturating_sub c =
+    let same : length c.siblings.result.now ≡ length (listed c.args.volume.now.state.rows c.args.dir.0) = ap length c.siblings.ensures ∙ length-map (listed c.args.volume.now.state.rows c.args.dir.0) child_of in
+    none-behind c.args.volume.now.state.rows c.args.asked.now c.args.dir.0 c.args.from c.args.skip (sym c.counts_all.ensures ∙ c.if-not-counts_all.false)
+    (omega (arith, c.saturating_sub.ensures, c.if-skip-saturating_sub.false))

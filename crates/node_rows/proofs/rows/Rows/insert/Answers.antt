@@ -1,26 +1,33 @@
-use Rattle.std.proofs.Common.{◌≡◌, ◌∙◌, ap, sym, subst, ◌+◌, ◌<◌, ◌≤◌, List, [], ◌∷◌, ◌++◌, None, arith}
+use Rattle.std.proofs.Common.{◌≡◌, ◌∙◌, ap, sym, subst, ◌+◌, ◌<◌, ◌≤◌, ◌==◌, true, not, List, [], ◌∷◌, ◌++◌, None, arith}
 use Rattle.std.specs.Prelude.{nat_lt}
 use Rattle.std.specs.List.{list_all}
 use Rattle.volume_spec.specs.SoundVolume.{last_next_id}
 use Rattle.volume_spec.specs.VolumeState.{Row}
 use Rattle.volume_spec.specs.Walk.{child_by_key, row_at}
+use Rattle.node_rows.specs.Children.{child_of}
 use Rattle.node_rows.specs.Kept.{RowsValue, admitted}
 use Rattle.node_rows.specs.lemma.Kept.{AreKept}
+use Rattle.node_rows.specs.lemma.Kinds.{child_kinds}
+use Rattle.node_rows.specs.lemma.Places.{is_apart}
 use Rattle.node_rows.specs.declared.child.Child.{Child}
+use Rattle.node_rows.proofs.ChildKinds.{as-many, kinds-new}
 use Rattle.node_rows.proofs.Keeping.{free-child, free-apart, none-drawn, none-there, keeps-new, admitted-last}
 use Rattle.node_rows.proofs.rows.Rows.insert.Goals as goal
 
-pub put_both-requires-clause-new : goal.put_both-requires-clause-new
-put_both-requires-clause-new c =
+pub put_all-requires-clause-new : goal.put_all-requires-clause-new
+put_all-requires-clause-new c =
     let rows : List Row = c.self.inside.nodes.items in
     let next : c.self.inside.next ≡ c.args.node.id = ap (λ (v : RowsValue). v.next_id) c.self.view_is ∙ sym c.requires.id in
-    none-drawn rows c.args.node.id (ap (λ n. list_all (λ (row : Row). nat_lt row.id n) rows) (sym next) ∙ c.self.invariant.below)
+    none-drawn rows c.args.node.id (ap (λ n. list_all (λ (row : Row). nat_lt row.id n) rows) (sym next) ∙ c.self.invariant.kept.below)
 
-pub put_both-requires-clause-free : goal.put_both-requires-clause-free
-put_both-requires-clause-free c =
+pub put_all-requires-clause-free : goal.put_all-requires-clause-free
+put_all-requires-clause-free c =
     let rows : List Row = c.self.inside.nodes.items in
     let free : child_by_key rows c.args.node.parent c.args.key ≡ None = ap (λ (v : RowsValue). child_by_key v.rows c.args.node.parent c.args.key) c.self.view_is ∙ c.requires.free in
-    free-child rows c.self.inside.children.items c.self.inside.next c.args.node c.args.key c.requires.key free c.self.invariant
+    free-child rows c.self.inside.children.items c.self.inside.next c.args.node c.args.key c.requires.key free c.self.invariant.kept
+
+pub put_all-requires-clause-kinds : goal.put_all-requires-clause-kinds
+put_all-requires-clause-kinds c = as-many c.self.inside.nodes.items c.self.inside.children.items c.self.inside.kinds.kinds c.self.invariant.kinds_are
 
 pub invariant_of-self : goal.invariant_of-self
 invariant_of-self c =
@@ -28,17 +35,26 @@ invariant_of-self c =
     let children : List Child = c.self.inside.children.items in
     let free : child_by_key rows c.args.node.parent c.args.key ≡ None = ap (λ (v : RowsValue). child_by_key v.rows c.args.node.parent c.args.key) c.self.view_is ∙ c.requires.free in
     let next : c.self.inside.next ≡ c.args.node.id = ap (λ (v : RowsValue). v.next_id) c.self.view_is ∙ sym c.requires.id in
-    let new : row_at rows c.args.node.id ≡ None = none-drawn rows c.args.node.id (ap (λ n. list_all (λ (row : Row). nat_lt row.id n) rows) (sym next) ∙ c.self.invariant.below) in
-    let low : 17 ≤ c.self.inside.next = c.self.invariant.low in
-    let fits : c.args.node.id < last_next_id = c.put_both.ensures.id in
-    subst (λ l. AreKept l c.put_both.new.children.items (c.self.inside.next + 1)) (sym c.put_both.ensures.nodes)
-    (subst (λ l. AreKept (admitted c.args.node rows) l (c.self.inside.next + 1)) (sym c.put_both.ensures.children)
-    (keeps-new c.args.node rows children c.self.inside.next (c.self.inside.next + 1) (none-there rows c.args.node.id new) (free-apart c.args.node rows c.args.key c.requires.key free)
-    (omega arith) (omega arith) (omega arith) (omega arith) c.self.invariant))
+    let new : row_at rows c.args.node.id ≡ None = none-drawn rows c.args.node.id (ap (λ n. list_all (λ (row : Row). nat_lt row.id n) rows) (sym next) ∙ c.self.invariant.kept.below) in
+    let low : 17 ≤ c.self.inside.next = c.self.invariant.kept.low in
+    let fits : c.args.node.id < last_next_id = c.put_all.ensures.id in
+    let others : list_all (λ (row : Row). not (row.id == c.args.node.id)) rows ≡ true = none-there rows c.args.node.id new in
+    let apart : list_all (is_apart (child_of c.args.node)) children ≡ true = free-child rows children c.self.inside.next c.args.node c.args.key c.requires.key free c.self.invariant.kept in
+    let kept : AreKept c.put_all.new.nodes.items c.put_all.new.children.items (c.self.inside.next + 1) =
+    subst (λ l. AreKept l c.put_all.new.children.items (c.self.inside.next + 1)) (sym c.put_all.ensures.nodes)
+    (subst (λ l. AreKept (admitted c.args.node rows) l (c.self.inside.next + 1)) (sym c.put_all.ensures.children)
+    (keeps-new c.args.node rows children c.self.inside.next (c.self.inside.next + 1) others (free-apart c.args.node rows c.args.key c.requires.key free)
+    (omega arith) (omega arith) (omega arith) (omega arith) c.self.invariant.kept)) in
+    record {
+      kept = kept;
+      kinds_are = c.put_all.ensures.kinds
+          ∙ kinds-new c.args.node rows children c.self.inside.kinds.kinds c.self.inside.next others apart c.self.invariant.kept c.self.invariant.kinds_are
+          ∙ (λ i. child_kinds (sym c.put_all.ensures.nodes i) (sym c.put_all.ensures.children i));
+    }
 
 pub returns-clause-rows : goal.returns-clause-rows
 returns-clause-rows c =
     let rows : List Row = c.self.inside.nodes.items in
     let next : c.self.inside.next ≡ c.args.node.id = ap (λ (v : RowsValue). v.next_id) c.self.view_is ∙ sym c.requires.id in
-    c.put_both.ensures.nodes ∙ admitted-last c.args.node rows (ap (λ n. list_all (λ (row : Row). nat_lt row.id n) rows) (sym next) ∙ c.self.invariant.below)
+    c.put_all.ensures.nodes ∙ admitted-last c.args.node rows (ap (λ n. list_all (λ (row : Row). nat_lt row.id n) rows) (sym next) ∙ c.self.invariant.kept.below)
     ∙ ap (λ (v : RowsValue). v.rows ++ c.args.node ∷ []) c.self.view_is

@@ -8,4 +8,4 @@ use Rattle.node_rows.proofs.rows.Rows.nodes.Goals as goal
 pub returns-clause-apart : goal.returns-clause-apart
 returns-clause-apart c =
     ap (λ (v : RowsValue). are_apart are_named_alike v.rows) (sym c.self.view_is)
-    ∙ names-apart c.self.inside.nodes.items c.self.inside.children.items c.self.inside.next c.self.invariant
+    ∙ names-apart c.self.inside.nodes.items c.self.inside.children.items c.self.inside.next c.self.invariant.kept

@@ -15,5 +15,5 @@ returns c =
     answered-nth c.nth_child.result (slice_get (listed c.args.self.now.rows c.args.dir.0) c.args.i) (
     c.nth_child.ensures
     ∙ ap (λ l. option_map (λ (child : Child). child.id) (slice_get (filter (is_of c.args.dir.0) l) c.args.i)) c.as_slice.ensures.value
-    ∙ nth-is c.self.inside.nodes.items c.self.inside.children.items c.self.inside.next c.args.dir.0 c.args.i c.self.invariant
+    ∙ nth-is c.self.inside.nodes.items c.self.inside.children.items c.self.inside.next c.args.dir.0 c.args.i c.self.invariant.kept
     ∙ ap (λ (v : RowsValue). option_map (λ (row : Row). node_id row.id) (slice_get (listed v.rows c.args.dir.0) c.args.i)) c.self.view_is)

@@ -11,5 +11,5 @@ pub returns : goal.returns
 returns c =
     c.siblings.ensures
     ∙ ap (λ l. filter (is_of c.args.dir.0) l) c.as_slice.ensures.value
-    ∙ siblings-are c.self.inside.nodes.items c.self.inside.children.items c.self.inside.next c.args.dir.0 c.self.invariant
+    ∙ siblings-are c.self.inside.nodes.items c.self.inside.children.items c.self.inside.next c.args.dir.0 c.self.invariant.kept
     ∙ ap (λ (v : RowsValue). map child_of (listed v.rows c.args.dir.0)) c.self.view_is

@@ -1,0 +1,17 @@
+use Rattle.std.proofs.Common.{◌≡◌, ◌∙◌, ap, sym, length, insert, arith}
+use Rattle.node_rows.specs.lemma.Kinds.{KindsValue, kinds_of}
+use Rattle.node_rows.proofs.KindCounts.{are-counts, kinds-are, length-kinds}
+use Rattle.node_rows.proofs.kinds.Kinds.insert.Goals as goal
+
+pub put_kind-requires-clause-within : goal.put_kind-requires-clause-within
+put_kind-requires-clause-within c =
+    let size : length c.args.self.now.kinds ≡ length c.self.inside.files.items = ap (λ (v : KindsValue). length v.kinds) (sym c.self.view_is) ∙ length-kinds 0 c.self.inside.files.items in
+    omega (arith, c.requires.within)
+
+pub invariant_of-self : goal.invariant_of-self
+invariant_of-self c = are-counts c.put_kind.new.files.items (insert (kinds_of 0 c.self.inside.files.items) c.args.place c.args.file) c.put_kind.ensures.items
+
+pub returns-clause-kinds : goal.returns-clause-kinds
+returns-clause-kinds c =
+    kinds-are c.put_kind.new.files.items (insert (kinds_of 0 c.self.inside.files.items) c.args.place c.args.file) c.put_kind.ensures.items
+    ∙ ap (λ (v : KindsValue). insert v.kinds c.args.place c.args.file) c.self.view_is
