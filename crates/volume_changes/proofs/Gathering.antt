@@ -1,6 +1,6 @@
 -- Changes that are gathered key by key.
 use Rattle.std.proofs.Common.{◌≡◌, ◌∙◌, ℕ, zero, suc, ◌+◌, ◌<◌, ◌≤◌, arith, Bool, true, List, [], ◌∷◌, ◌++◌, map, take, length, get_or, refl, sym, ap, append-nil, append_assoc}
-use Rattle.std.specs.Prelude.{flat_map, Option, Some, None, option_map, Result, Ok, Err, OnOk, slice_index}
+use Rattle.std.specs.Prelude.{flat_map, Option, Result, Ok, Err, OnOk, slice_index}
 use Rattle.std.specs.FinMap.{get}
 use Rattle.std.specs.List.{list_all}
 use Rattle.std.proofs.lemmas.List.{take_more}
@@ -21,10 +21,6 @@ differences-append (k ∷ ks) js m n = ap (λ l. turned k (get m k) (get n k) ++
 -- one key
 pub one : (k : List ℕ) (m n : Records) (old new : Option (List ℕ)) (before next : List Change) → next ≡ before ++ turned k old new → get m k ≡ old → get n k ≡ new → next ≡ before ++ differences (k ∷ []) m n
 one k m n old new before next h a b = h ∙ (λ i. before ++ turned k (sym a i) (sym b i)) ∙ ap (λ l. before ++ l) (sym (append-nil (turned k (get m k) (get n k))))
-
-pub mapped-twice : {A B C : Type 0} (f : B → C) (g : A → B) (o : Option A) → option_map f (option_map g o) ≡ option_map (λ x. f (g x)) o
-mapped-twice f g None = refl
-mapped-twice f g (Some a) = refl
 
 pub ok-map : {T E : Type 0} {P Q : Type 0} (r : Result T E) → (P → Q) → OnOk r P → OnOk r Q
 ok-map (Ok t) f h = f h

@@ -9,7 +9,7 @@ ghost use Rattle.volume_changes.specs.Differences.{differences};
 ghost use Rattle.volume_changes.specs.Touched.{fork_keys};
 
 use crate::laws::{forks_change_by_block, records_are_found};
-use crate::noting::{appl_value, change_blocks, node_value, note};
+use crate::noting::{appl_value, change_blocks, note};
 use crate::touched::{ForkPlace, Mapping, four_bytes};
 use crate::transition::Transition;
 use afp_base::OutOfMemory;
@@ -46,12 +46,9 @@ fn change_node<S: Transition>(
     ensures { OnOk result (changes.new.items ≡ changes.old.items ++ differences (records.node_key id ∷ []) (kept_image (S.before step.now)) (kept_image (S.after step.now))) }
 {
     records_are_found();
-    let before = step.node_before(alloc, id)?;
-    let old = node_value(alloc, before)?;
-    let after = step.node_after(alloc, id)?;
-    let new = node_value(alloc, after)?;
+    let values = step.node_values(alloc, id)?;
     let key = node_key(alloc, id)?;
-    note(changes, key, old, new)
+    note(changes, key, values.before, values.after)
 }
 
 /// The changes of the records of these nodes, in their order.

@@ -10,7 +10,10 @@ use afp_base::{Bytes, OutOfMemory};
 use fork_bytes::Block;
 use record_keeper::{Change, RecordKey};
 use std::alloc::Global;
-use volume_keeper_records::{Node, block_key, node_record};
+use volume_keeper_records::block_key;
+
+/// How many bytes a tag has.
+const TAG: usize = 4;
 
 /// Adds a change.
 fn push(changes: &mut Vec<Change>, change: Change) -> Result<(), OutOfMemory>
@@ -42,26 +45,13 @@ pub(crate) fn note(
     }
 }
 
-/// What the record of a node has.
-pub(crate) fn node_value(alloc: Global, node: Option<Node>) -> Result<Option<Bytes>, OutOfMemory>
-    ensures { IfOk result (λ value. value ≡ option_map (λ n. (records.node_record n).value) node) }
-{
-    match node {
-        Some(node) => {
-            let record = node_record(alloc, &node)?;
-            Ok(Some(record.value))
-        }
-        None => Ok(None),
-    }
-}
-
 /// What the record of an APPL mapping has.
 pub(crate) fn appl_value(alloc: Global, tag: Option<u32>) -> Result<Option<Bytes>, OutOfMemory>
     ensures { IfOk result (λ value. value ≡ option_map records.long_bytes tag) }
 {
     match tag {
         Some(tag) => {
-            let mut value = Bytes::new(alloc);
+            let mut value = Bytes::with_room(alloc, TAG)?;
             value.push_u32(tag)?;
             Ok(Some(value))
         }

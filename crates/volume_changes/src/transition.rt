@@ -1,15 +1,14 @@
 //! The changes of the records of a volume, whatever changes it.
-ghost use Rattle.std.specs.Prelude.{◌≡◌, ℕ, List, option_map, IfOk};
+ghost use Rattle.std.specs.Prelude.{◌≡◌, ℕ, List, IfOk};
 ghost use Rattle.volume_spec.specs.SoundVolume.{IsSoundVolume};
 ghost use Rattle.volume_spec.specs.VolumeState.{VolumeState};
-ghost use Rattle.volume_spec.specs.Walk.{row_at};
 ghost use Rattle.fork_bytes.specs.Plan.{changes_of};
 ghost use Rattle.record_keeper.specs.Records.{changed};
-ghost use Rattle.volume_keeper_records.specs.Image.{kept_image, node_of, tables_of};
+ghost use Rattle.volume_keeper_records.specs.Image.{kept_image, tables_of};
 ghost use Rattle.volume_keeper_records.specs.Records.{version};
 ghost use Rattle.volume_changes.specs.Differences.{differences};
 ghost use Rattle.volume_changes.specs.Laws.{IsExact};
-ghost use Rattle.volume_changes.specs.Touched.{IsWithin, keys_of};
+ghost use Rattle.volume_changes.specs.Touched.{IsWithin, keys_of, node_value};
 ghost use Rattle.volume_changes.specs.TouchedOrder.{AreRising};
 ghost use Rattle.volume_changes.specs.Values.{appl_tag, comment_value, fork_at, icon_value};
 
@@ -22,7 +21,14 @@ use afp_base::{Bytes, OutOfMemory};
 use fork_bytes::Block;
 use record_keeper::Change;
 use std::alloc::Global;
-use volume_keeper_records::{Head, Node};
+use volume_keeper_records::Head;
+
+/// The values of a node's record, as it is and as it will be, each where the node is there.
+#[derive(Drop)]
+pub struct NodeValues {
+    pub before: Option<Bytes>,
+    pub after: Option<Bytes>,
+}
 
 /// A volume as it is, and as it will be: what there is of each kind of record, in the version that is written. The one error is want of memory.
 pub trait Transition {
@@ -38,13 +44,10 @@ pub trait Transition {
     fn head_after(&self) -> Head
         ensures { result ≡ (tables_of version (after self.now)).head };
 
-    /// A node as it is, with the lengths of its forks, where it is there.
-    fn node_before(&self, alloc: Global, id: u32) -> Result<Option<Node>, OutOfMemory>
-        ensures { IfOk result (λ node. node ≡ option_map (node_of version) (row_at (before self.now).rows id)) };
-
-    /// A node as it will be.
-    fn node_after(&self, alloc: Global, id: u32) -> Result<Option<Node>, OutOfMemory>
-        ensures { IfOk result (λ node. node ≡ option_map (node_of version) (row_at (after self.now).rows id)) };
+    /// The values of a node's record.
+    fn node_values(&self, alloc: Global, id: u32) -> Result<NodeValues, OutOfMemory>
+        ensures old_value { IfOk result (λ values. values.before ≡ node_value (before self.now) id) }
+        ensures new_value { IfOk result (λ values. values.after ≡ node_value (after self.now) id) };
 
     /// The blocks of a fork that differ, by rising index, as they will be. A fork that is not there has no bytes.
     fn blocks(&self, alloc: Global, id: u32, resource: bool) -> Result<Vec<Block>, OutOfMemory>

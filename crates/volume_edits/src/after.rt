@@ -150,6 +150,23 @@ fn exchanged<'a>(from: Option<WholeNode<'a>>, to: Option<WholeNode<'a>>) -> Opti
     }
 }
 
+/// A node as it is, and as a plan leaves it, each where it is there.
+#[derive(Drop)]
+pub struct NodeStep<'a> {
+    pub before: Option<WholeNode<'a>>,
+    pub after: Option<WholeNode<'a>>,
+}
+
+/// A node once more, where it is there.
+fn again<'a>(node: &Option<WholeNode<'a>>) -> Option<WholeNode<'a>>
+    ensures { result ≡ node.now }
+{
+    match node {
+        Some(node) => Some(node.again()),
+        None => None,
+    }
+}
+
 impl WholeVolume {
     /// A node with its forks, as it is.
     pub fn node_before<'a>(&'a self, id: NodeId) -> Option<WholeNode<'a>>
@@ -180,13 +197,15 @@ impl WholeVolume {
         if edit.does_come() { next + 1 } else { next }
     }
 
-    /// A node with its forks, behind so many edits.
+    /// A node with its forks, behind so many edits, from what it is before them.
     fn node_behind<'a>(
         &'a self,
         edits: &'a [Edit],
         count: usize,
         id: NodeId,
+        before: Option<WholeNode<'a>>,
     ) -> Option<WholeNode<'a>>
+        requires before { before ≡ row_at self.now.state.rows id.0 }
         requires within { count ≤ length edits.now }
         requires may { MayEditAll self.now.state (edits_of (take count edits.now)) }
         ensures { result ≡ row_at (after_edits self.now.state (edits_of (take count edits.now))).rows id.0 }
@@ -195,22 +214,29 @@ impl WholeVolume {
         edits_keep_volumes_sound();
         self.keeps_sound();
         if count == 0 {
-            return self.node_before(id);
+            return before;
         }
         let edit = &edits[count - 1];
-        let node = self.node_behind(edits, count - 1, id);
+        let node = self.node_behind(edits, count - 1, id, before);
         match edit.partner(id) {
-            Some(other) => exchanged(self.node_behind(edits, count - 1, other), node),
+            Some(other) => {
+                let kept = self.node_before(other);
+                exchanged(self.node_behind(edits, count - 1, other, kept), node)
+            }
             None => edit.left(self.next_behind(edits, count - 1), id, node),
         }
     }
 
-    /// A node with its forks, as a plan of this volume as it is leaves it.
-    pub fn node_after<'a>(&'a self, plan: &'a Plan, id: NodeId) -> Option<WholeNode<'a>>
+    /// A node with its forks, as it is, and as a plan of this volume as it is leaves it.
+    pub fn node_step<'a>(&'a self, plan: &'a Plan, id: NodeId) -> NodeStep<'a>
         requires { MayEditAll self.now.state (edits_of plan.now.edits) }
-        ensures { result ≡ row_at (after_call self.now.state plan.now.moment (edits_of plan.now.edits)).rows id.0 }
+        ensures before { result.before ≡ row_at self.now.state.rows id.0 }
+        ensures after { result.after ≡ row_at (after_call self.now.state plan.now.moment (edits_of plan.now.edits)).rows id.0 }
     {
         let edits = plan.edits.as_slice();
-        self.node_behind(edits, edits.len(), id)
+        let before = self.node_before(id);
+        let start = again(&before);
+        let after = self.node_behind(edits, edits.len(), id, start);
+        NodeStep { before, after }
     }
 }

@@ -53,6 +53,17 @@ impl<'a> ForkAfter<'a> {
         ForkAfter(Source::Written { write })
     }
 
+    /// The same once more.
+    pub(crate) fn again(&self) -> ForkAfter<'a>
+        ensures { result ≡ self.now }
+    {
+        match &self.0 {
+            Source::Nowhere => ForkAfter(Source::Nowhere),
+            Source::Kept { fork } => ForkAfter::kept(fork),
+            Source::Written { write } => ForkAfter::written(write),
+        }
+    }
+
     /// How many bytes it has.
     pub fn len(&self) -> u64
         ensures { result ≡ length self.now }

@@ -19,6 +19,7 @@ mod plan;
 mod whole;
 mod whole_node;
 
+pub use after::NodeStep;
 pub use edit::Edit;
 pub use fork_after::ForkAfter;
 pub use plan::Plan;

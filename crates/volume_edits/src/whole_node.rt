@@ -36,6 +36,19 @@ pub(crate) fn date_of(now: Moment) -> i32
     now.seconds() as i32
 }
 
+/// A node without its forks, once more.
+fn node_again<'a>(node: &NodeAfter<'a>) -> NodeAfter<'a>
+    ensures { result ≡ node.now }
+{
+    NodeAfter {
+        id: node.id,
+        parent: node.parent,
+        dir: node.dir,
+        marks: node.marks,
+        name: node.name,
+    }
+}
+
 impl<'a> WholeNode<'a> {
     /// A node that comes, under the id that it draws.
     pub(crate) fn coming(new: &'a NodeWithForks, id: NodeId) -> WholeNode<'a>
@@ -45,6 +58,17 @@ impl<'a> WholeNode<'a> {
             node: NodeAfter::of(new.node()).with_id(id),
             data_fork: ForkAfter::kept(new.fork(false)),
             resource_fork: ForkAfter::kept(new.fork(true)),
+        }
+    }
+
+    /// The same once more.
+    pub(crate) fn again(&self) -> WholeNode<'a>
+        ensures { result ≡ self.now }
+    {
+        WholeNode {
+            node: node_again(&self.node),
+            data_fork: self.data_fork.again(),
+            resource_fork: self.resource_fork.again(),
         }
     }
 

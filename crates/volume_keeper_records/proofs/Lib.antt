@@ -27,3 +27,4 @@ pub mod Climbing
 pub mod SeenLemmas
 pub mod Passing
 pub mod Loading
+pub mod Pieces

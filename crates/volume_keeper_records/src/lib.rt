@@ -24,5 +24,5 @@ pub use rows::{
 };
 pub use write::{
     appl_key, appl_record, block_key, block_record, comment_key, comment_record, head_record,
-    icon_key, icon_record, node_key, node_record, record_of,
+    icon_key, icon_record, node_key, node_record, node_value, record_of,
 };

@@ -1,5 +1,5 @@
 //! The record of a row.
-ghost use Rattle.std.specs.Prelude.{◌≡◌, ◌∷◌, ◌++◌, IfOk, OnOk};
+ghost use Rattle.std.specs.Prelude.{◌≡◌, ◌∷◌, ◌++◌, [], IfOk, OnOk};
 ghost use Rattle.volume_keeper_records.specs.Records.{head_record as the_head, node_record as the_node, block_record as the_block, comment_record as the_comment, icon_record as the_icon, appl_record as the_appl, node_key as the_node_key, block_key as the_block_key, comment_record_key as the_comment_key, appl_record_key as the_appl_key, record_of as the_record, icon_tag, flag_byte, privilege_bytes, word_bytes, long_bytes, quad_bytes, date_bytes};
 
 use crate::limits::{APPL, BLOCK, COMMENT, HEAD, ICON, NODE};
@@ -8,18 +8,53 @@ use afp_base::{Bytes, OutOfMemory};
 use record_keeper::{Record, RecordKey};
 use std::alloc::Global;
 
+/// How many bytes a node's value has at most before its name.
+const BEFORE_NAME: usize = 79;
+
+/// How many bytes the value of a head has.
+const HEAD_VALUE: usize = 22;
+
+/// How many bytes a tag has.
+const TAG: usize = 4;
+
+/// This byte, with room for so many in all.
+fn begun(alloc: Global, first: u8, size: usize) -> Result<Bytes, OutOfMemory>
+    ensures { IfOk result (λ bytes. bytes ≡ first ∷ []) }
+{
+    let mut bytes = Bytes::with_room(alloc, size)?;
+    bytes.extend(&[first])?;
+    Ok(bytes)
+}
+
 fn flag(set: bool) -> u8
     ensures { result ≡ flag_byte set }
 {
     if set { 1 } else { 0 }
 }
 
+/// A byte, and a number of four bytes.
+fn numbered(first: u8, number: u32) -> [u8; 5]
+    ensures { result ≡ first ∷ long_bytes number }
+{
+    let n = number.to_be_bytes();
+    [first, n[0], n[1], n[2], n[3]]
+}
+
+/// The bytes of a block's key.
+fn block_place(node: u32, is_resource: bool, index: u32) -> [u8; 10]
+    ensures { result ≡ the_block_key node is_resource index }
+{
+    let n = node.to_be_bytes();
+    let i = index.to_be_bytes();
+    let fork = flag(is_resource);
+    [BLOCK, n[0], n[1], n[2], n[3], fork, i[0], i[1], i[2], i[3]]
+}
+
 /// The key of a node's record.
 pub fn node_key(alloc: Global, id: u32) -> Result<RecordKey, OutOfMemory>
     ensures { IfOk result (λ key. key ≡ the_node_key id) }
 {
-    let mut key = Bytes::of(alloc, &[NODE])?;
-    key.push_u32(id)?;
+    let key = Bytes::of(alloc, &numbered(NODE, id))?;
     Ok(RecordKey::new(key))
 }
 
@@ -32,10 +67,7 @@ pub fn block_key(
 ) -> Result<RecordKey, OutOfMemory>
     ensures { IfOk result (λ key. key ≡ the_block_key node is_resource index) }
 {
-    let mut key = Bytes::of(alloc, &[BLOCK])?;
-    key.push_u32(node)?;
-    key.push_u8(flag(is_resource))?;
-    key.push_u32(index)?;
+    let key = Bytes::of(alloc, &block_place(node, is_resource, index))?;
     Ok(RecordKey::new(key))
 }
 
@@ -43,8 +75,7 @@ pub fn block_key(
 pub fn comment_key(alloc: Global, node: u32) -> Result<RecordKey, OutOfMemory>
     ensures { IfOk result (λ key. key ≡ the_comment_key node) }
 {
-    let mut key = Bytes::of(alloc, &[COMMENT])?;
-    key.push_u32(node)?;
+    let key = Bytes::of(alloc, &numbered(COMMENT, node))?;
     Ok(RecordKey::new(key))
 }
 
@@ -52,7 +83,7 @@ pub fn comment_key(alloc: Global, node: u32) -> Result<RecordKey, OutOfMemory>
 pub fn icon_key(alloc: Global, key: &[u8; 9]) -> Result<RecordKey, OutOfMemory>
     ensures { IfOk result (λ k. k ≡ icon_tag ∷ key.now) }
 {
-    let mut bytes = Bytes::of(alloc, &[ICON])?;
+    let mut bytes = begun(alloc, ICON, 10)?;
     bytes.extend(key.as_slice())?;
     Ok(RecordKey::new(bytes))
 }
@@ -61,7 +92,7 @@ pub fn icon_key(alloc: Global, key: &[u8; 9]) -> Result<RecordKey, OutOfMemory>
 pub fn appl_key(alloc: Global, creator: &[u8; 4], node: u32) -> Result<RecordKey, OutOfMemory>
     ensures { IfOk result (λ key. key ≡ the_appl_key creator.now node) }
 {
-    let mut key = Bytes::of(alloc, &[APPL])?;
+    let mut key = begun(alloc, APPL, 9)?;
     key.extend(creator.as_slice())?;
     key.push_u32(node)?;
     Ok(RecordKey::new(key))
@@ -73,7 +104,7 @@ pub fn head_record(alloc: Global, head: &Head) -> Result<Record, OutOfMemory>
     ensures { IfOk result (λ r. r ≡ the_head head.now) }
 {
     let key = Bytes::of(alloc, &[HEAD])?;
-    let mut value = Bytes::new(alloc);
+    let mut value = Bytes::with_room(alloc, HEAD_VALUE)?;
     value.push_u16(head.version)?;
     value.push_u32(head.created.cast_unsigned())?;
     value.push_u32(head.modified.cast_unsigned())?;
@@ -84,16 +115,44 @@ pub fn head_record(alloc: Global, head: &Head) -> Result<Record, OutOfMemory>
 }
 
 /// What stands before the Finder info.
-fn front_of(alloc: Global, node: &Node) -> Result<Bytes, OutOfMemory>
-    ensures { IfOk result (λ b. b ≡ flag_byte node.now.is_directory ∷ (long_bytes node.now.parent ++ (word_bytes node.now.attributes ++ (date_bytes node.now.created ++ (date_bytes node.now.modified ++ date_bytes node.now.backup))))) }
+fn front_of(node: &Node) -> [u8; 19]
+    ensures { result ≡ flag_byte node.now.is_directory ∷ (long_bytes node.now.parent ++ (word_bytes node.now.attributes ++ (date_bytes node.now.created ++ (date_bytes node.now.modified ++ date_bytes node.now.backup)))) }
 {
-    let mut front = Bytes::of(alloc, &[flag(node.is_directory)])?;
-    front.push_u32(node.parent)?;
-    front.push_u16(node.attributes)?;
-    front.push_u32(node.created.cast_unsigned())?;
-    front.push_u32(node.modified.cast_unsigned())?;
-    front.push_u32(node.backup.cast_unsigned())?;
-    Ok(front)
+    let kind = flag(node.is_directory);
+    let p = node.parent.to_be_bytes();
+    let a = node.attributes.to_be_bytes();
+    let c = node.created.to_be_bytes();
+    let m = node.modified.to_be_bytes();
+    let b = node.backup.to_be_bytes();
+    [
+        kind, p[0], p[1], p[2], p[3], a[0], a[1], c[0], c[1], c[2], c[3], m[0], m[1], m[2], m[3],
+        b[0], b[1], b[2], b[3],
+    ]
+}
+
+/// What stands behind it, before owner, group and rights.
+fn forks_of(node: &Node) -> [u8; 17]
+    ensures { result ≡ flag_byte node.now.is_filed ∷ (quad_bytes node.now.data_length ++ quad_bytes node.now.resource_length) }
+{
+    let filed = flag(node.is_filed);
+    let d = node.data_length.to_be_bytes();
+    let r = node.resource_length.to_be_bytes();
+    [
+        filed, d[0], d[1], d[2], d[3], d[4], d[5], d[6], d[7], r[0], r[1], r[2], r[3], r[4], r[5],
+        r[6], r[7],
+    ]
+}
+
+/// Owner, group and rights.
+fn rights_of(privileges: &Privileges) -> [u8; 11]
+    ensures { result ≡ long_bytes privileges.now.owner ++ (long_bytes privileges.now.group ++ (privileges.now.everyone_rights ∷ privileges.now.group_rights ∷ privileges.now.owner_rights ∷ [])) }
+{
+    let o = privileges.owner.to_be_bytes();
+    let g = privileges.group.to_be_bytes();
+    let r = &privileges.rights;
+    [
+        o[0], o[1], o[2], o[3], g[0], g[1], g[2], g[3], r[0], r[1], r[2],
+    ]
 }
 
 /// Owner, group and rights, where they are there.
@@ -103,26 +162,24 @@ fn push_privileges(bytes: &mut Bytes, privileges: &Option<Privileges>) -> Result
     match privileges {
         None => Ok(()),
         Some(privileges) => {
-            bytes.push_u32(privileges.owner)?;
-            bytes.push_u32(privileges.group)?;
-            bytes.push_u8(privileges.rights[0])?;
-            bytes.push_u8(privileges.rights[1])?;
-            bytes.push_u8(privileges.rights[2])?;
+            bytes.extend(&rights_of(privileges))?;
             Ok(())
         }
     }
 }
 
-/// What stands behind it.
-fn behind_of(alloc: Global, node: &Node) -> Result<Bytes, OutOfMemory>
-    ensures { IfOk result (λ b. b ≡ flag_byte node.now.is_filed ∷ (quad_bytes node.now.data_length ++ (quad_bytes node.now.resource_length ++ (privilege_bytes node.now.privileges ++ node.now.name)))) }
+/// The value of the record of a node, with this name in place of its own.
+#[tactic(auto, unfolding(crate::specs::Records::node_record))]
+pub fn node_value(alloc: Global, node: &Node, name: &[u8]) -> Result<Bytes, OutOfMemory>
+    ensures { IfOk result (λ value. value ≡ (the_node (record node.now { name = name.now })).value) }
 {
-    let mut behind = Bytes::of(alloc, &[flag(node.is_filed)])?;
-    behind.push_u64(node.data_length)?;
-    behind.push_u64(node.resource_length)?;
-    push_privileges(&mut behind, &node.privileges)?;
-    behind.extend(node.name.as_slice())?;
-    Ok(behind)
+    let mut value = Bytes::with_room(alloc, BEFORE_NAME.saturating_add(name.len()))?;
+    value.extend(&front_of(node))?;
+    value.extend(&node.finder)?;
+    value.extend(&forks_of(node))?;
+    push_privileges(&mut value, &node.privileges)?;
+    value.extend(name)?;
+    Ok(value)
 }
 
 /// The record of a node.
@@ -131,10 +188,7 @@ pub fn node_record(alloc: Global, node: &Node) -> Result<Record, OutOfMemory>
     ensures { IfOk result (λ r. r ≡ the_node node.now) }
 {
     let key = node_key(alloc, node.id)?;
-    let mut value = front_of(alloc, node)?;
-    value.extend(node.finder.as_slice())?;
-    let behind = behind_of(alloc, node)?;
-    value.extend(behind.as_slice())?;
+    let value = node_value(alloc, node, node.name.as_slice())?;
     Ok(Record { key, value })
 }
 
@@ -163,13 +217,14 @@ pub fn comment_record(alloc: Global, comment: &Comment) -> Result<Record, OutOfM
 pub fn icon_record(alloc: Global, icon: &Icon) -> Result<Record, OutOfMemory>
     ensures { IfOk result (λ r. r ≡ the_icon icon.now) }
 {
-    let mut key = Bytes::of(alloc, &[ICON])?;
+    let mut key = begun(alloc, ICON, 10)?;
     key.extend(icon.creator.as_slice())?;
     key.extend(icon.kind.as_slice())?;
     key.push_u8(icon.icon_kind)?;
-    let mut value = Bytes::new(alloc);
+    let bits = icon.bits.as_slice();
+    let mut value = Bytes::with_room(alloc, TAG.saturating_add(bits.len()))?;
     value.push_u32(icon.tag)?;
-    value.extend(icon.bits.as_slice())?;
+    value.extend(bits)?;
     let key = RecordKey::new(key);
     Ok(Record { key, value })
 }
@@ -180,7 +235,7 @@ pub fn appl_record(alloc: Global, appl: &Appl) -> Result<Record, OutOfMemory>
     ensures { IfOk result (λ r. r ≡ the_appl appl.now) }
 {
     let key = appl_key(alloc, &appl.creator, appl.node)?;
-    let mut value = Bytes::new(alloc);
+    let mut value = Bytes::with_room(alloc, TAG)?;
     value.push_u32(appl.tag)?;
     Ok(Record { key, value })
 }

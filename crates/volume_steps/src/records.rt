@@ -1,16 +1,19 @@
 //! Records of a volume from what is lent of it. The one error is want of memory.
-ghost use Rattle.std.specs.Prelude.{◌≡◌, option_map, IfOk};
+ghost use Rattle.std.specs.Prelude.{◌≡◌, [], option_map, IfOk};
 ghost use Rattle.std.specs.Option.{option_copied};
 ghost use Rattle.desktop_db.specs.Kept.{shown_icon};
 ghost use Rattle.volume_keeper_records.specs.Image as image;
-ghost use Rattle.volume_keeper_records.specs.Records.{version};
+ghost use Rattle.volume_keeper_records.specs.Records.{node_record, version};
 ghost use Rattle.volume_steps.specs.lemma.Records as bytes;
 
 use afp_base::{Bytes, OutOfMemory};
 use std::alloc::Global;
 use volume_edits::WholeNode;
-use volume_keeper_records::{Head, Node, Privileges, VERSION};
+use volume_keeper_records::{Head, Node, Privileges, VERSION, node_value};
 use volume_tree::{NodeAfter, VolumeHead};
+
+/// How many bytes a tag has.
+const TAG: usize = 4;
 
 /// The head of a volume, of the version that is written.
 pub(crate) fn head_of(head: VolumeHead) -> Head
@@ -25,16 +28,11 @@ pub(crate) fn head_of(head: VolumeHead) -> Head
     }
 }
 
-/// A node with the lengths of its forks.
-fn sized(
-    alloc: Global,
-    node: &NodeAfter<'_>,
-    data_length: u64,
-    resource_length: u64,
-) -> Result<Node, OutOfMemory>
-    ensures { IfOk result (λ made. made ≡ bytes.sized node.now data_length resource_length) }
+/// A node with the lengths of its forks, and with no name.
+fn sized(alloc: Global, node: &NodeAfter<'_>, data_length: u64, resource_length: u64) -> Node
+    ensures { result ≡ record (bytes.sized node.now data_length resource_length) { name = [] } }
 {
-    Ok(Node {
+    Node {
         id: node.id.0,
         is_directory: node.dir,
         parent: node.parent.0,
@@ -51,25 +49,26 @@ fn sized(
             group: node.marks.group,
             rights: node.marks.rights,
         }),
-        name: Bytes::of(alloc, node.name.as_str().as_bytes())?,
-    })
+        name: Bytes::new(alloc),
+    }
 }
 
-/// A node with the lengths of its forks in place of these.
-fn node_made(alloc: Global, node: &WholeNode<'_>) -> Result<Node, OutOfMemory>
-    ensures { IfOk result (λ made. made ≡ image.node_of version node.now) }
+/// The value of a node's record, with the lengths of its forks in place of these.
+fn node_made(alloc: Global, node: &WholeNode<'_>) -> Result<Bytes, OutOfMemory>
+    ensures { IfOk result (λ value. value ≡ (node_record (image.node_of version node.now)).value) }
 {
     let data_length = node.data_fork.len();
     let resource_length = node.resource_fork.len();
-    sized(alloc, &node.node, data_length, resource_length)
+    let sized = sized(alloc, &node.node, data_length, resource_length);
+    node_value(alloc, &sized, node.node.name.as_str().as_bytes())
 }
 
 /// The same, where the node is there.
-pub(crate) fn node_of(
+pub(crate) fn node_bytes(
     alloc: Global,
     node: Option<WholeNode<'_>>,
-) -> Result<Option<Node>, OutOfMemory>
-    ensures { IfOk result (λ made. made ≡ option_map (image.node_of version) node.entry) }
+) -> Result<Option<Bytes>, OutOfMemory>
+    ensures { IfOk result (λ value. value ≡ option_map (λ r. (node_record (image.node_of version r)).value) node.entry) }
 {
     match node {
         Some(node) => Ok(Some(node_made(alloc, &node)?)),
@@ -91,7 +90,7 @@ pub(crate) fn copied_text(alloc: Global, text: Option<&[u8]>) -> Result<Option<B
 fn icon_made(alloc: Global, tag: u32, bits: &[u8]) -> Result<Bytes, OutOfMemory>
     ensures { IfOk result (λ value. value ≡ bytes.icon_bytes (tag, bits.now)) }
 {
-    let mut value = Bytes::new(alloc);
+    let mut value = Bytes::with_room(alloc, bits.len().saturating_add(TAG))?;
     value.push_u32(tag)?;
     value.extend(bits)?;
     Ok(value)

@@ -4,14 +4,14 @@ ghost use Rattle.volume_spec.specs.Edit.{after_call};
 ghost use Rattle.volume_spec.specs.EditLaws.{MayEditAll};
 ghost use Rattle.volume_edits.specs.Planned.{StandOn, edits_of};
 
-use crate::records::{copied_text, head_of, icon_bytes, node_of};
+use crate::records::{copied_text, head_of, icon_bytes, node_bytes};
 use afp_base::{Bytes, NodeId, OutOfMemory};
 use fork_bytes::Block;
 use std::alloc::Global;
 use std::marker::Model;
-use volume_changes::Transition;
+use volume_changes::{NodeValues, Transition};
 use volume_edits::{Plan, WholeVolume};
-use volume_keeper_records::{Head, Node};
+use volume_keeper_records::Head;
 
 /// A volume, and a plan of it as it is, both lent.
 ///
@@ -60,12 +60,11 @@ impl<'a> Transition for Step<'a> {
         head_of(self.whole.head_after(self.plan))
     }
 
-    fn node_before(&self, alloc: Global, id: u32) -> Result<Option<Node>, OutOfMemory> {
-        node_of(alloc, self.whole.node_before(NodeId(id)))
-    }
-
-    fn node_after(&self, alloc: Global, id: u32) -> Result<Option<Node>, OutOfMemory> {
-        node_of(alloc, self.whole.node_after(self.plan, NodeId(id)))
+    fn node_values(&self, alloc: Global, id: u32) -> Result<NodeValues, OutOfMemory> {
+        let step = self.whole.node_step(self.plan, NodeId(id));
+        let before = node_bytes(alloc, step.before)?;
+        let after = node_bytes(alloc, step.after)?;
+        Ok(NodeValues { before, after })
     }
 
     fn blocks(&self, alloc: Global, id: u32, resource: bool) -> Result<Vec<Block>, OutOfMemory> {

@@ -7,12 +7,12 @@ use Rattle.volume_edits.proofs.whole.WholeVolume.+node_behind.Goals as goal
 pub node_behind-node-requires : goal.node_behind-node-requires
 node_behind-node-requires t c =
     let l : Last c.args.self.now.state c.args.edits.now c.args.count c.index-edits-count.result.edit = last c.args.self.now.state c.args.edits.now c.args.count c.index-edits-count.result c.if-count-eq0.false c.requires.within c.requires.may c.index-edits-count.is in
-    (omega (arith, c.decreases, l.some), (l.within, l.before))
+    (omega (arith, c.decreases, l.some), (c.requires.before, (l.within, l.before)))
 
 pub node_behind-requires : goal.node_behind-requires
 node_behind-requires t c =
     let l : Last c.args.self.now.state c.args.edits.now c.args.count c.index-edits-count.result.edit = last c.args.self.now.state c.args.edits.now c.args.count c.index-edits-count.result c.if-count-eq0.false c.requires.within c.requires.may c.index-edits-count.is in
-    (omega (arith, c.decreases, l.some), (l.within, l.before))
+    (omega (arith, c.decreases, l.some), (c.node_before-kept.ensures, (l.within, l.before)))
 
 pub next_behind-requires-clause-may : goal.next_behind-requires-clause-may
 next_behind-requires-clause-may t c =
