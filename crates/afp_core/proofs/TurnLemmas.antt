@@ -13,6 +13,9 @@ use Rattle.afp_serial.specs.declared.ask.Outcome.{Outcome}
 use Rattle.afp_serial.specs.declared.ask.Outcome.TheVariants as outcome
 use Rattle.afp_serial.specs.declared.ask.Told.{Told}
 use Rattle.afp_serial.specs.declared.ask.Told.TheVariants.{Opened, Reply, Live, Done, Displaced, Memory}
+use Rattle.afp_serial.specs.declared.answered.Answered.{Answered}
+use Rattle.afp_serial.specs.declared.answered.Answered.TheVariants as answered
+use Rattle.afp_serial.specs.Answered.{told_of}
 use Rattle.afp_serial.specs.ForkLaws.{OpensAreFew}
 use Rattle.afp_serial.specs.Answer.{after, answer, answer_at, committed_at, committed_of, is_full, is_legal, is_legal_outcome, link_number, refusal_reply, told_call, told_parting, told_pulse, told_verdict, Verdict, refused, repeats, runs, verdict}
 use Rattle.afp_base.specs.declared.code.Code.TheVariants.{NoMoreSessions}
@@ -125,13 +128,13 @@ pub legal-entry : (w : World) (now : ℕ) (link : LinkNumber) (asked : Ask) (o :
 legal-entry w now link asked o typed may = and_from (is_typed_entry (entry now link asked o)) (is_legal_outcome (committed_at (at_moment w now) link.0 asked) o) typed may
 
 -- what opens no session
-pub not-opened : (told : Told) → ((link : LinkNumber) → told ≡ Opened link → ⊥) → count_by is_opened (told ∷ []) ≡ 0
-not-opened (Opened link) other = absurd (other link refl)
-not-opened (Reply code block ends) other = refl
-not-opened (Live drain) other = refl
-not-opened Done other = refl
-not-opened Displaced other = refl
-not-opened Memory other = refl
+pub not-opened : (a : Answered) (out : List ℕ) → ((link : LinkNumber) → a ≡ answered.Opened link → ⊥) → count_by is_opened (told_of a out ∷ []) ≡ 0
+not-opened (answered.Opened link) out other = absurd (other link refl)
+not-opened (answered.Reply code size ends) out other = refl
+not-opened (answered.Live drain) out other = refl
+not-opened answered.Done out other = refl
+not-opened answered.Displaced out other = refl
+not-opened answered.Memory out other = refl
 
 -- the outcome of an ask, as an entry
 pub turned : (c d : ServerState) (now : ℕ) (link : LinkNumber) (asked : Ask) (told : Told) (o : Outcome)

@@ -7,7 +7,7 @@ ghost use Rattle.afp_core.specs.Sureness.{MeetsNoFaults, SureKept};
 
 use crate::turn::Core;
 use afp_base::{LinkNumber, Moment};
-use afp_serial::{Ask, Entry, Teller, Told};
+use afp_serial::{Answered, Ask, Entry, Teller};
 use record_keeper::Keeper;
 use std::alloc::Global;
 use std::snapshot::Snapshot;
@@ -88,24 +88,24 @@ impl<K: Keeper> Teller for ListTeller<K> {
       within = upto-within (length t.entries.items);
     } };
 
-    fn ask(&mut self, now: Moment, link: LinkNumber, ask: Ask) -> Told {
+    fn ask(&mut self, now: Moment, link: LinkNumber, ask: Ask, out: &mut [u8]) -> Answered {
         if self.entries.reserve(1).is_err() {
-            return Told::Memory;
+            return Answered::Memory;
         }
         let Ok(kept) = ask.copy() else {
-            return Told::Memory;
+            return Answered::Memory;
         };
-        match self.core.step(now, link, ask) {
-            Ok((told, outcome)) => {
+        match self.core.step(now, link, ask, out) {
+            Ok((answered, outcome)) => {
                 self.entries.push_reserved(Entry {
                     link,
                     at: now,
                     ask: kept,
                     outcome,
                 });
-                told
+                answered
             }
-            Err(_) => Told::Memory,
+            Err(_) => Answered::Memory,
         }
     }
 }

@@ -1,11 +1,14 @@
 //! The core, and its turns.
-ghost use Rattle.std.specs.Prelude.{◌≡◌, ◌≢◌, ◌↔◌, ◌-◌, Err, IfErr, IfOk, IfSome, Some, is_some, length, option_map, slice_get};
+ghost use Rattle.std.specs.Prelude.{◌≡◌, ◌≢◌, ◌≤◌, ◌↔◌, ◌-◌, Err, IfErr, IfOk, IfSome, Some, is_some, length, option_map, slice_get, true};
+ghost use Rattle.afp_base.specs.Limits.{payload_limit};
+ghost use Rattle.afp_serial.specs.Answered.{tells_bytes, told_of};
 ghost use Rattle.afp_serial.specs.World.{volume_at};
 ghost use Rattle.afp_serial.specs.Sound.{IsSound};
 ghost use Rattle.afp_core_state.specs.Holding.{AreHeld};
 ghost use Rattle.afp_core_state.specs.KeptWorld.{with_token_key};
 ghost use Rattle.record_keeper.specs.Records.{Records};
 ghost use Rattle.volume_keeper_records.specs.Image.{kept_image};
+ghost use Rattle.afp_core_dispatch.specs.Asks.{told_in};
 ghost use Rattle.afp_core_keepers.specs.Loads.{IsCoreFault};
 ghost use Rattle.afp_core.specs.Loads.{IsLoadedServer};
 ghost use Rattle.afp_core.specs.Retiring.{RetiresServer};
@@ -19,7 +22,7 @@ use afp_core_dispatch::run_ask;
 use afp_core_keepers::{CoreFault, Retired, load_all, settle_all};
 use afp_core_state::State;
 use afp_serial::fork_laws::references_are_lowest;
-use afp_serial::{Ask, House, Outcome, Told, entry_in_range, moment_in_range};
+use afp_serial::{Answered, Ask, House, Outcome, entry_in_range, moment_in_range};
 use record_keeper::Keeper;
 use std::alloc::Global;
 use std::marker::Model;
@@ -77,32 +80,38 @@ impl<K: Keeper> Core<K> {
         }
     }
 
-    /// Answers one ask, and tells its outcome too.
+    /// Answers one ask, and tells its outcome too; the block of a reply is put at the front of `out`.
     pub(crate) fn step(
         &mut self,
         now: Moment,
         link: LinkNumber,
         ask: Ask,
-    ) -> Result<(Told, Outcome), OutOfMemory>
-        ensures { TakesStep self.old now link ask result self.new }
+        out: &mut [u8],
+    ) -> Result<(Answered, Outcome), OutOfMemory>
+        requires { tells_bytes ask ≡ true → payload_limit ≤ length out.old }
+        ensures step { TakesStep self.old now link ask (told_in result out.new) self.new }
+        ensures length { length out.new ≡ length out.old }
     {
         entry_in_range(now, link, &ask);
         references_are_lowest();
-        let (told, outcome) = run_ask(&mut self.state, now, link, ask)?;
+        let (answered, outcome) = run_ask(&mut self.state, now, link, ask, out)?;
         self.entries = self.entries.saturating_add(1);
-        if let Told::Opened { .. } = told {
+        if let Answered::Opened { .. } = answered {
             self.opened = self.opened.saturating_add(1);
         }
-        Ok((told, outcome))
+        Ok((answered, outcome))
     }
 
-    /// Answers one ask. `Memory`: nothing has changed; that answer is for `Open` and `Call` alone.
-    pub fn turn(&mut self, now: Moment, link: LinkNumber, ask: Ask) -> Told
-        ensures { TakesTurn self.old now link ask result self.new }
+    /// Answers one ask; the block of a reply is put at the front of `out`. `Memory`: nothing has changed but there; that
+    /// answer is for `Open` and `Call` alone.
+    pub fn turn(&mut self, now: Moment, link: LinkNumber, ask: Ask, out: &mut [u8]) -> Answered
+        requires { tells_bytes ask ≡ true → payload_limit ≤ length out.old }
+        ensures turn { TakesTurn self.old now link ask (told_of result out.new) self.new }
+        ensures length { length out.new ≡ length out.old }
     {
-        match self.step(now, link, ask) {
-            Ok((told, _)) => told,
-            Err(OutOfMemory) => Told::Memory,
+        match self.step(now, link, ask, out) {
+            Ok((answered, _)) => answered,
+            Err(OutOfMemory) => Answered::Memory,
         }
     }
 

@@ -30,7 +30,7 @@ pub fn add_icon<K: Keeper>(
     kind: [u8; 4],
     icon_kind: u8,
     tag: u32,
-    piece: &Bytes,
+    piece: &[u8],
 ) -> Result<(Told, Outcome), OutOfMemory>
     ensures { (size : ℕ) → RunsRow state.old session.0 (Call.AddIcon dt creator kind icon_kind tag size piece.now) result state.new }
 {
@@ -40,7 +40,7 @@ pub fn add_icon<K: Keeper>(
     icons_have_their_keys();
     four_bytes(&creator);
     four_bytes(&kind);
-    let bits = piece.copy()?;
+    let bits = Bytes::of(state.alloc, piece)?;
     let key = icon_key(creator, kind, icon_kind);
     let volume = whole_at(state, index);
     let answer = plan_add_icon(

@@ -1,6 +1,7 @@
 -- Asks.
 use Rattle.std.proofs.Common.{◌≡◌, ◌∙◌, ap, sym, refl, subst, ℕ, Bool, true, false, List, Option, Some, None, is_some}
-use Rattle.std.specs.Prelude.{Result, Ok, Err}
+use Rattle.std.specs.Prelude.{Result, Ok, Err, max}
+use Rattle.std.proofs.lemmas.Bool.{and_from}
 use Rattle.afp_base.specs.Cached.{Request}
 use Rattle.afp_base.specs.declared.bytes.OutOfMemory.{OutOfMemory}
 use Rattle.afp_base.specs.declared.code.Code.TheVariants.{NoMoreSessions}
@@ -10,13 +11,18 @@ use Rattle.afp_serial.specs.declared.ask.Ask.TheVariants as ask
 use Rattle.afp_serial.specs.declared.ask.Outcome.{Outcome}
 use Rattle.afp_serial.specs.declared.ask.Told.{Told}
 use Rattle.afp_serial.specs.declared.ask.Told.TheVariants.{Opened, Done, Displaced}
-use Rattle.afp_serial.specs.Answer.{after_at, answer_at, drain_moment, losing, without_expired, committed_at, link_number, refusal_reply, request, told_pulse}
+use Rattle.afp_serial.proofs.StaysSound.{answer-fits}
+use Rattle.afp_serial.specs.Answer.{after_at, answer_at, committed_of, drain_moment, is_legal_outcome, losing, without_expired, committed_at, link_number, refusal_reply, request, told_pulse}
+use Rattle.afp_serial.specs.History.{entry}
+use Rattle.afp_serial.specs.Ranges.{is_typed_entry}
+use Rattle.afp_serial.specs.Sound.{IsSound}
 use Rattle.afp_serial.specs.declared.attachment.Attachment.TheVariants.{Detached}
 use Rattle.afp_serial.specs.World.{session_at, with_session, without_session, World, Session}
 use Rattle.session_table.specs.Sessions.{IsAt}
 use Rattle.afp_core_state.specs.Running.{done}
 use Rattle.afp_core_dispatch.specs.Asks.{RunsAsk, takes_memory}
 use Rattle.afp_core_dispatch.specs.lemma.Asks.{RunsCall}
+use Rattle.afp_core_dispatch.specs.lemma.Fits.{AskFits, CallFits}
 use Rattle.afp_core_state.specs.KeptWorld.{KeptWorld}
 use Rattle.afp_core_state.specs.lemma.KeptWorld.{table_in, with_table}
 use Rattle.session_table.specs.Sessions.{Becomes, Opens, Table}
@@ -107,3 +113,14 @@ call-at old new link id write offset payload asked (Err e) is runs = (ap takes_m
 -- an ask by its name
 pub ask-as : (old new : KeptWorld) (link : ℕ) (asked of : Ask) (told : Told) → asked ≡ of → RunsAsk old link of (Ok (done told)) new → RunsAsk old link asked (Ok (done told)) new
 ask-as old new link asked of told is runs = subst (λ (a : Ask). RunsAsk old link a (Ok (done told)) new) (sym is) runs
+
+-- what an ask may be told fits
+
+pub call-fits : (w : World) (link id : ℕ) (write : Bool) (offset : ℕ) (payload : List ℕ) (asked : Ask) → asked ≡ ask.Call id write offset payload → AskFits w link asked → CallFits w link (request id write offset payload)
+unfolding answer_at committed_at
+call-fits w link id write offset payload asked is fits = subst (λ (a : Ask). AskFits w link a) is fits
+
+pub ask-fits : (w : World) (now n : ℕ) (link : LinkNumber) (asked : Ask) → n ≡ max w.latest now → IsSound w → ((o : Outcome) → is_typed_entry (entry now link asked o) ≡ true) → AskFits (record w { latest = n }) link.0 asked
+ask-fits w now n link asked is sound typed =
+    subst (λ (m : ℕ). AskFits (record w { latest = m }) link.0 asked) (sym is)
+    (λ o legal. answer-fits w (entry now link asked o) sound (and_from (is_typed_entry (entry now link asked o)) (is_legal_outcome (committed_of w (entry now link asked o)) o) (typed o) legal))

@@ -1,28 +1,33 @@
 -- A call whose answer is kept.
-use Rattle.std.proofs.Common.{◌≡◌, ◌∙◌, ap, sym, refl, subst, ℕ, ◌<◌, ◌≤◌, Bool, true, false, not, ◌||◌, length, Option, Some, None, inl, inr, arith}
-use Rattle.std.specs.Prelude.{Result, Ok, Err, find, is_none, is_some, ◌==◌}
+use Rattle.std.proofs.Common.{◌≡◌, ◌∙◌, ap, sym, refl, subst, ℕ, ◌≤◌, Bool, true, false, not, ◌||◌, ◌&&◌, List, [], ◌∷◌, length, Option, Some, None, inl, inr, arith}
+use Rattle.std.specs.Prelude.{Result, Ok, Err, find, if◌then◌else◌, is_none, is_some, ◌==◌}
 use Rattle.std.specs.List.{list_all}
-use Rattle.std.proofs.lemmas.Bool.{or_cases}
+use Rattle.std.proofs.lemmas.Bool.{cond_both, leb-true, or_cases}
 use Rattle.afp_base.specs.Cached.{Request, Answer, cached_answer}
 use Rattle.afp_base.specs.declared.bytes.OutOfMemory.{OutOfMemory}
+use Rattle.afp_base.specs.Limits.{payload_limit}
 use Rattle.afp_base.specs.declared.code.Code.{Code}
+use Rattle.afp_base.specs.declared.code.Code.TheVariants.{CallNotSupported, UserNotAuth}
+use Rattle.afp_calls_grammar.specs.Spelt.{is_command, spelt_call}
 use Rattle.afp_calls_grammar.specs.declared.call.Call.{Call}
 use Rattle.afp_serial.proofs.KeptAnswers.{has_none}
 use Rattle.afp_serial.proofs.OtherPlaces.{only-number}
 use Rattle.afp_serial.proofs.RowsSound.{row-sound}
 use Rattle.afp_serial.proofs.SoundParts.{sessions-parts}
-use Rattle.afp_serial.specs.Answer.{Verdict, repeats, refused, runs, after_call, after_verdict, committed_by, committed_in, newly_kept, refusal_reply, told_call, told_verdict, verdict, verdict_of_block, verdict_of_kept, verdict_of_row}
-use Rattle.afp_serial.specs.KeptAnswers.{block_of, kept_answer, kept_in}
+use Rattle.afp_serial.specs.Answer.{Verdict, repeats, refused, runs, after_call, after_verdict, committed_by, committed_in, is_legal_outcome, needs_user, newly_kept, refusal_reply, told_call, told_verdict, verdict, verdict_of_block, verdict_of_kept, verdict_of_row, verdict_of_spelling}
+use Rattle.afp_serial.specs.Answered.{block_in}
+use Rattle.afp_serial.specs.KeptAnswers.{block_of, enclosed_of, kept_answer, kept_in}
 use Rattle.afp_serial.specs.KeptAnswers as serial
 use Rattle.afp_serial.specs.Rows.{refusal}
 use Rattle.afp_serial.specs.Sound.{IsSound}
-use Rattle.afp_serial.specs.World.{Refused, plain, World, Session}
+use Rattle.afp_serial.specs.Shown.{fits_frame}
+use Rattle.afp_serial.specs.World.{Refused, plain, session_at, World, Session}
 use Rattle.afp_serial.specs.declared.ask.Outcome.{Outcome}
 use Rattle.afp_serial.specs.declared.ask.Outcome.TheVariants as outcome
 use Rattle.afp_serial.specs.declared.ask.Told.{Told}
+use Rattle.afp_serial.specs.declared.ask.Told.TheVariants as told
 use Rattle.afp_base.proofs.Facts.{never}
 use Rattle.afp_base.proofs.ListFacts.{find-all, find-passes}
-use Rattle.afp_core_state.specs.KeeperFaults.{KeepersRise, failed_keeper}
 use Rattle.afp_core_state.specs.KeptWorld.{KeptWorld}
 use Rattle.afp_core_state.specs.Running.{IsOutcomeOf, RunsRow, RunsVerdict, done}
 use Rattle.afp_core_state.specs.lemma.KeptWorld.{table_in}
@@ -30,11 +35,10 @@ use Rattle.afp_core_state.proofs.KeeperLemmas.{outcome-same}
 use Rattle.afp_core_state.proofs.SessionLemmas.{session_of-number}
 use Rattle.session_table.specs.Sessions.{HasNone, IsAt, session_of}
 use Rattle.afp_core_dispatch.specs.lemma.Asks.{RunsCall}
-use Rattle.afp_core_dispatch.specs.lemma.Keeping.{IsThere, IsToldAgain, RunsKept, block_in, keeps}
+use Rattle.afp_core_dispatch.specs.lemma.Fits.{CallFits, HasRoom, HasRoomFor, VerdictFits}
+use Rattle.afp_core_dispatch.specs.lemma.Keeping.{IsThere, IsToldAgain, RunsBlock, RunsKept, keeps}
 use Rattle.afp_core_dispatch.specs.lemma.Spelling.{IsSpelled}
 use Rattle.afp_core_dispatch.specs.declared.spelling.Stop.TheVariants.{Refused as StopRefused}
-use Rattle.afp_serial.proofs.LongAnswers.{long-tells}
-use Rattle.afp_serial.specs.ToldAtMost.{told_at_most}
 
 -- no answer is kept for the request after the row
 
@@ -101,70 +105,64 @@ kept-runs k mid new n q r s v at is_it ran becomes =
     (sym (becomes ∙ ap (λ (a : Option Answer). keeps mid n a q) told_is))
     (kept-outcome k mid n s.number q r (newly_kept q v (told_verdict k.world s v r.1)) (told_verdict k.world s v r.1) (after_verdict k.world s v r.1) (committed_by k.world s v) (session_of-number k.world.sessions n s at) ran)
 
--- a row whose answer is too long for its room changes nothing
-
--- an outcome that leaves the world and commits to no keeper leaves all
-stays : (k mid : KeptWorld) (want : Told) (after_it : World) (index : Option ℕ) (o : Outcome) (t : Told) → after_it ≡ k.world → index ≡ None → IsOutcomeOf want after_it index o t k mid → mid ≡ k
-stays k mid want after_it index o t same none ran =
-    let world = ran.world ∙ same in
-    let faults : mid.faults ≡ k.faults = no-fault o (subst (λ (x : Option ℕ). KeepersRise (failed_keeper x o) k.faults mid.faults) none ran.keepers) in
-    let sure = ran.sure in
-    let settled = ran.settled none in
-    (λ i. record { world = world i; faults = faults i; sure = sure i; settled = settled i })
-  where
-    no-fault : (o : Outcome) → KeepersRise (failed_keeper None o) k.faults mid.faults → mid.faults ≡ k.faults
-    no-fault outcome.Done h = h
-    no-fault outcome.Fault h = h
-
-pub long-stays : (k mid : KeptWorld) (n room : ℕ) (call : Call) (r : Told × Outcome) → IsThere k n → IsSound k.world → RunsRow k n call (Ok r) mid → told_at_most call ≤ room → room < length (block_in r.0) → mid ≡ k
-long-stays k mid n room call r there sound ran fits long = by (refusal k.world s call) r.1 refl refl (ran s there.numbered)
-  where
-    s : Session
-    s = there.session
-
-    by : (o : Option Refused) (out : Outcome) → refusal k.world there.session call ≡ o → r.1 ≡ out → RunsVerdict k there.session (verdict_of_row call o) r mid → mid ≡ k
-    by (Some x) out is at h = stays k mid _ _ _ r.1 r.0 refl refl h
-    by None outcome.Fault is at h =
-        let tells : r.0 ≡ told_verdict k.world there.session (runs call) outcome.Fault = h.serial ∙ ap (told_verdict k.world there.session (runs call)) at in
-        let empty : length (block_in r.0) ≡ 0 = ap (λ (t : Told). length (block_in t)) tells in
-        absurd (omega (arith, empty, long))
-    by None outcome.Done is at h =
-        let tells : r.0 ≡ told_verdict k.world there.session (runs call) outcome.Done = h.serial ∙ ap (told_verdict k.world there.session (runs call)) at in
-        let size = ap (λ (t : Told). length (block_in t)) tells in
-        let alone = long-tells k.world there.session call sound is (omega (arith, size, long, fits)) in
-        stays k mid _ _ _ r.1 r.0 (ap (after_verdict k.world there.session (runs call)) at ∙ alone.world) alone.keeper h
-
 -- the steps before the row
 
 module _ (k new : KeptWorld) (n : ℕ) (q : Request) where
   -- a request that comes to a row
   pub spelled-runs : (call : Call) (result : Result (Told × Outcome) OutOfMemory) (has_user : Bool) → ((s : Session) → session_of k.world.sessions n ≡ Some s → has_user ≡ is_some s.user) → IsSpelled has_user q (Ok call)
-      → RunsKept k n q (λ w s. verdict_of_row call (refusal w s call)) result new → RunsKept k n q (λ w s. verdict_of_block w s q (block_of q)) result new
+      → RunsRow k n call result new → RunsBlock k n q result new
   spelled-runs call (Err e) has_user user spelled ran = ran
   spelled-runs call (Ok r) has_user user spelled ran = λ s at.
       let comes : verdict_of_block k.world s q (block_of q) ≡ verdict_of_row call (refusal k.world s call) = spelled k.world s (sym (user s at)) in
-      subst (λ (v : Verdict). IsOutcomeOf (told_verdict k.world s v r.1) (serial.keeping (after_verdict k.world s v r.1) s.number q (newly_kept q v (told_verdict k.world s v r.1))) (committed_by k.world s v) r.1 r.0 k new) (sym comes) (ran s at)
+      subst (λ (v : Verdict). RunsVerdict k s v r new) (sym comes) (ran s at)
 
   -- one that is refused before
   pub refused-runs : (code : Code) (t : Told) (has_user : Bool) → ((s : Session) → session_of k.world.sessions n ≡ Some s → has_user ≡ is_some s.user) → IsSpelled has_user q (Err (StopRefused code)) → t ≡ refusal_reply code
-      → new ≡ keeps k n (kept_answer q t) q → RunsKept k n q (λ w s. verdict_of_block w s q (block_of q)) (Ok (done t)) new
-  refused-runs code t has_user user spelled tells becomes = λ s at.
+      → new ≡ k → RunsBlock k n q (Ok (done t)) new
+  refused-runs code t has_user user spelled tells same = λ s at.
       let comes : verdict_of_block k.world s q (block_of q) ≡ refused (plain code) = spelled k.world s (sym (user s at)) in
-      subst (λ (v : Verdict). IsOutcomeOf (told_verdict k.world s v outcome.Done) (serial.keeping (after_verdict k.world s v outcome.Done) s.number q (newly_kept q v (told_verdict k.world s v outcome.Done))) (committed_by k.world s v) outcome.Done t k new) (sym comes)
-      (kept-runs k k new n q (done t) s (refused (plain code)) at refl (outcome-same k k _ _ t tells refl) becomes)
+      subst (λ (v : Verdict). RunsVerdict k s v (done t) new) (sym comes) (outcome-same k new _ _ t tells same)
 
--- a row, and its answer kept
-pub row-kept : (k mid new : KeptWorld) (n : ℕ) (q : Request) (call : Call) (r : Told × Outcome) → RunsRow k n call (Ok r) mid → new ≡ keeps mid n (kept_answer q r.0) q
-    → RunsKept k n q (λ w s. verdict_of_row call (refusal w s call)) (Ok r) new
-row-kept k mid new n q call r ran becomes = λ s at. kept-runs k mid new n q r s (verdict_of_row call (refusal k.world s call)) at (row-new call (refusal k.world s call)) (ran s at) becomes
+-- what a request is told, put into a buffer, and kept
 
-pub row-fresh : (k mid : KeptWorld) (n : ℕ) (q : Request) (call : Call) (r : Told × Outcome) → IsThere k n → IsSound k.world → HasNone (table_in k.world) n q → RunsRow k n call (Ok r) mid → HasNone (table_in mid.world) n q
-row-fresh k mid n q call r there sound fresh ran = none-kept k mid n q r there.session (verdict_of_row call (refusal k.world there.session call)) there.numbered sound fresh (ran there.session there.numbered)
+spelling-new : (w : World) (s : Session) (o : Option Call) → is_new (verdict_of_spelling w s o) ≡ true
+spelling-new w s None = refl
+spelling-new w s (Some call) = row-new call (refusal w s call)
+
+block-new : (w : World) (s : Session) (q : Request) (block : List ℕ) → is_new (verdict_of_block w s q block) ≡ true
+block-new w s q [] = refl
+block-new w s q (command ∷ fields) =
+    let spelt : Verdict = verdict_of_spelling w s (spelt_call (block_of q) (enclosed_of q)) in
+    cond_both (not (is_command command)) (refused (plain CallNotSupported)) (if is_none s.user && needs_user command then refused (plain UserNotAuth) else spelt) (λ v. is_new v ≡ true)
+    (λ none. refl)
+    (λ one. cond_both (is_none s.user && needs_user command) (refused (plain UserNotAuth)) spelt (λ v. is_new v ≡ true) (λ asks. refl) (λ passes. spelling-new w s (spelt_call (block_of q) (enclosed_of q))))
+
+pub told-fresh : (k mid : KeptWorld) (n : ℕ) (q : Request) (r : Told × Outcome) → IsThere k n → IsSound k.world → HasNone (table_in k.world) n q → RunsBlock k n q (Ok r) mid → HasNone (table_in mid.world) n q
+told-fresh k mid n q r there sound fresh ran =
+    none-kept k mid n q r there.session (verdict_of_block k.world there.session q (block_of q)) there.numbered sound fresh (ran there.session there.numbered)
+
+pub told-kept : (k mid new : KeptWorld) (n : ℕ) (q : Request) (told put : Told) (o : Outcome) → RunsBlock k n q (Ok (told, o)) mid → put ≡ told → new ≡ keeps mid n (kept_answer q told) q → RunsKept k n q (Ok (put, o)) new
+told-kept k mid new n q told put o ran same becomes =
+    subst (λ (t : Told). RunsKept k n q (Ok (t, o)) new) (sym same)
+    (λ s at. kept-runs k mid new n q (told, o) s (verdict_of_block k.world s q (block_of q)) at (block-new k.world s q (block_of q)) (ran s at) becomes)
+
+short-block : (t : Told) (room : ℕ) → fits_frame t ≡ true → payload_limit ≤ room → length (block_in t) ≤ room
+short-block (told.Opened link) room short enough = omega arith
+short-block (told.Reply code block ends) room short enough = let few : length block ≤ payload_limit = leb-true (length block) payload_limit short in omega (arith, few, enough)
+short-block (told.Live drain) room short enough = omega arith
+short-block told.Done room short enough = omega arith
+short-block told.Displaced room short enough = omega arith
+short-block told.Memory room short enough = omega arith
+
+pub told-room : (k mid : KeptWorld) (n : ℕ) (q : Request) (r : Told × Outcome) (room : ℕ) → IsThere k n → VerdictFits k n q → RunsBlock k n q (Ok r) mid → payload_limit ≤ room → length (block_in r.0) ≤ room
+told-room k mid n q r room there fits came enough =
+    let ran : RunsVerdict k there.session (verdict_of_block k.world there.session q (block_of q)) r mid = came there.session there.numbered in
+    short-block r.0 room (ap fits_frame ran.serial ∙ fits there.session there.numbered r.1 ran.legal) enough
 
 -- the call
 
 pub call-fresh : (k new : KeptWorld) (link n : ℕ) (q : Request) (result : Result (Told × Outcome) OutOfMemory) → IsAt k.world.sessions link n → HasNone (table_in k.world) n q
-    → RunsKept k n q (λ w s. verdict_of_block w s q (block_of q)) result new → RunsCall k link q result new
+    → RunsKept k n q result new → RunsCall k link q result new
 unfolding verdict
 call-fresh k new link n q (Err e) at fresh ran = ran
 call-fresh k new link n q (Ok r) at fresh ran =
@@ -193,3 +191,33 @@ none-again k n q none = λ s at. by (cached_answer s.cache q) (none s at)
     by : (o : Option Answer) → IsToldAgain o None → o ≡ None
     by None h = refl
     by (Some a) h = absurd h
+
+-- what may be told fits
+
+module _ (k : KeptWorld) (link n : ℕ) (q : Request) (at : IsAt k.world.sessions link n) (fits : CallFits k.world link q) where
+  -- the session of the link is the one of the number
+  is-linked : (s : Session) → session_of k.world.sessions n ≡ Some s → session_at k.world link ≡ Some s
+  is-linked s found = at.linked ∙ sym at.numbered ∙ found
+
+  told-fits : (s : Session) (v : Verdict) (o : Outcome) → session_of k.world.sessions n ≡ Some s → verdict k.world s q ≡ v → is_legal_outcome (committed_by k.world s v) o ≡ true → fits_frame (told_verdict k.world s v o) ≡ true
+  told-fits s v o found comes legal =
+      let tells : told_call k.world (session_at k.world link) q o ≡ told_verdict k.world s v o = ap (λ (x : Option Session). told_call k.world x q o) (is-linked s found) ∙ ap (λ (x : Verdict). told_verdict k.world s x o) comes in
+      let commits : committed_in k.world (session_at k.world link) q ≡ committed_by k.world s v = ap (λ (x : Option Session). committed_in k.world x q) (is-linked s found) ∙ ap (committed_by k.world s) comes in
+      ap fits_frame (sym tells) ∙ fits o (ap (λ (x : Option ℕ). is_legal_outcome x o) commits ∙ legal)
+
+  -- an answer that is kept
+  pub kept-room : (room : ℕ) → payload_limit ≤ room → HasRoom k n q room
+  unfolding verdict
+  kept-room room enough = λ s found. by s found (cached_answer s.cache q) refl
+    where
+      by : (s : Session) → session_of k.world.sessions n ≡ Some s → (o : Option Answer) → cached_answer s.cache q ≡ o → HasRoomFor o room
+      by s found None is = tt
+      by s found (Some a) is =
+          let comes : verdict k.world s q ≡ repeats a = ap (λ (x : Option Answer). verdict_of_kept k.world s q x) is in
+          let few : length a.block ≤ payload_limit = leb-true (length a.block) payload_limit (told-fits s (repeats a) outcome.Done found comes refl) in
+          omega (arith, few, enough)
+
+  -- what is told where none is kept
+  pub verdict-fits : HasNone (table_in k.world) n q → VerdictFits k n q
+  unfolding verdict
+  verdict-fits fresh = λ s found o legal. told-fits s (verdict_of_block k.world s q (block_of q)) o found (ap (λ (x : Option Answer). verdict_of_kept k.world s q x) (fresh s found)) legal

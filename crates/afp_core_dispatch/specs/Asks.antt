@@ -1,13 +1,15 @@
 -- What an ask comes to (this profile).
-use Rattle.std.specs.Prelude.{◌≡◌, ◌<◌, ℕ, length, Bool, true, false, Result, Ok, Err}
+use Rattle.std.specs.Prelude.{◌≡◌, ◌<◌, ℕ, length, List, Bool, true, false, Result, Ok, Err}
 use Rattle.afp_base.specs.declared.bytes.OutOfMemory.{OutOfMemory}
 use Rattle.afp_base.specs.declared.ids.LinkNumber.{LinkNumber}
 use Rattle.afp_core_state.specs.KeptWorld.{KeptWorld}
 use Rattle.afp_core_state.specs.Running.{IsOutcomeOf}
 use Rattle.afp_serial.specs.Answer.{after_at, answer_at, committed_at}
+use Rattle.afp_serial.specs.Answered.{told_of}
 use Rattle.afp_base.specs.Limits.{most_opens}
 use Rattle.afp_serial.specs.Sound.{IsSound}
 use Rattle.afp_serial.specs.World.{World, at_moment}
+use Rattle.afp_serial.specs.declared.answered.Answered.{Answered}
 use Rattle.afp_serial.specs.declared.ask.Ask.{Ask}
 use Rattle.afp_serial.specs.declared.ask.Ask.TheVariants as ask
 use Rattle.afp_serial.specs.declared.ask.Outcome.{Outcome}
@@ -26,6 +28,11 @@ takes_memory ask.Pulse = false
 takes_memory ask.Bye = false
 takes_memory ask.Lost = false
 takes_memory ask.Drain = false
+
+-- what an ask came to, where the buffer of whoever asked has these bytes
+abbrev pub told_in : Result (Answered × Outcome) OutOfMemory → List ℕ → Result (Told × Outcome) OutOfMemory
+told_in (Ok r) out = Ok (told_of r.0 out, r.1)
+told_in (Err e) out = Err e
 
 -- a world beside its keepers, at a moment
 abbrev pub kept_at : KeptWorld → ℕ → KeptWorld

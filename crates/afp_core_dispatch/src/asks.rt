@@ -1,36 +1,44 @@
 //! An ask of the server, at its moment: sessions open and end, and calls are answered.
-ghost use Rattle.std.specs.Prelude.{◌≡◌, ℕ, Ok};
+ghost use Rattle.std.specs.Prelude.{◌≡◌, ◌≤◌, ℕ, List, Ok, length, true};
+ghost use Rattle.afp_base.specs.Limits.{payload_limit};
 ghost use Rattle.afp_serial.specs.Answer.{told_pulse, without_expired};
+ghost use Rattle.afp_serial.specs.Answered.{tells_bytes, told_of};
 ghost use Rattle.afp_serial.specs.World.{session_at};
 ghost use Rattle.afp_serial.specs.declared.ask.Ask.{Ask};
 ghost use Rattle.afp_core_state.specs.Running.{done};
-ghost use Rattle.afp_core_dispatch.specs.Asks.{IsReadyToAsk, RunsAsk, RunsAskAt};
+ghost use Rattle.afp_core_dispatch.specs.Asks.{IsReadyToAsk, RunsAsk, RunsAskAt, told_in};
 ghost use Rattle.afp_core_dispatch.specs.lemma.Asks.{RunsOpen};
+ghost use Rattle.afp_core_dispatch.specs.lemma.Fits.{AskFits};
 
 use crate::call::call;
 use crate::request::Request;
 use afp_base::{Code, LinkNumber, Moment, OutOfMemory};
-use afp_core_state::{State, refused};
-use afp_serial::{Ask, Outcome, Told, moment_in_range};
+use afp_core_state::State;
+use afp_serial::{Answered, Ask, Outcome, entry_in_range, moment_in_range};
 use record_keeper::Keeper;
 use session_table::SessionFault;
 use std::marker::Model;
 
-/// Answers an ask. Without memory nothing changes; only `Open` and `Call` take some.
+/// Answers an ask; the block of a reply is put at the front of `out`. Without memory nothing changes but there; only `Open`
+/// and `Call` take some.
 pub fn run_ask<K: Keeper>(
     state: &mut State<K>,
     now: Moment,
     link: LinkNumber,
     ask: Ask,
-) -> Result<(Told, Outcome), OutOfMemory>
-    requires { IsReadyToAsk state.old.world }
-    ensures { RunsAskAt state.old now link ask result state.new }
+    out: &mut [u8],
+) -> Result<(Answered, Outcome), OutOfMemory>
+    requires ready { IsReadyToAsk state.old.world }
+    requires room { tells_bytes ask ≡ true → payload_limit ≤ length out.old }
+    ensures runs { RunsAskAt state.old now link ask (told_in result out.new) state.new }
+    ensures length { length out.new ≡ length out.old }
 {
     moment_in_range(now);
+    entry_in_range(now, link, &ask);
     let before = state.latest;
     state.latest = before.later(now);
-    match run_ask_now(state, link, ask) {
-        Ok(told) => Ok(told),
+    match run_ask_now(state, link, ask, out) {
+        Ok(answered) => Ok(answered),
         Err(OutOfMemory) => {
             state.latest = before;
             Err(OutOfMemory)
@@ -43,9 +51,13 @@ fn run_ask_now<K: Keeper>(
     state: &mut State<K>,
     link: LinkNumber,
     ask: Ask,
-) -> Result<(Told, Outcome), OutOfMemory>
-    requires { IsReadyToAsk state.old.world }
-    ensures { RunsAsk state.old link.0 ask result state.new }
+    out: &mut [u8],
+) -> Result<(Answered, Outcome), OutOfMemory>
+    requires ready { IsReadyToAsk state.old.world }
+    requires fits { AskFits state.old.world link.0 ask }
+    requires room { tells_bytes ask ≡ true → payload_limit ≤ length out.old }
+    ensures runs { RunsAsk state.old link.0 ask (told_in result out.new) state.new }
+    ensures length { length out.new ≡ length out.old }
 {
     match ask {
         Ask::Open { .. } => Ok((open(state)?, Outcome::Done)),
@@ -63,6 +75,7 @@ fn run_ask_now<K: Keeper>(
                 offset,
                 payload,
             },
+            out,
         ),
         Ask::Pulse => Ok((pulse(state, link), Outcome::Done)),
         Ask::Bye => Ok((end_at(state, link), Outcome::Done)),
@@ -72,26 +85,30 @@ fn run_ask_now<K: Keeper>(
 }
 
 /// Opens a session on the next link.
-fn open<K: Keeper>(state: &mut State<K>) -> Result<Told, OutOfMemory>
+fn open<K: Keeper>(state: &mut State<K>) -> Result<Answered, OutOfMemory>
     requires { IsReadyToAsk state.old.world }
     ensures { RunsOpen state.old result state.new }
 {
     match state.sessions.open() {
-        Ok(link) => Ok(Told::Opened { link }),
-        Err(SessionFault::Full) => Ok(refused(state.alloc, Code::NoMoreSessions)),
+        Ok(link) => Ok(Answered::Opened { link }),
+        Err(SessionFault::Full) => Ok(Answered::Reply {
+            code: Code::NoMoreSessions,
+            size: 0,
+            ends: false,
+        }),
         Err(SessionFault::Memory) => Err(OutOfMemory),
     }
 }
 
 /// Ends the sessions that lost their links too long ago, and tells whether the link's session lives.
 /// Link 0 is no link of a session.
-fn pulse<K: Keeper>(state: &mut State<K>, link: LinkNumber) -> Told
+fn pulse<K: Keeper>(state: &mut State<K>, link: LinkNumber) -> Answered
     requires { IsReadyToAsk state.old.world }
-    ensures { RunsAsk state.old link.0 Ask.Pulse (Ok (done result)) state.new }
+    ensures { (out : List ℕ) → RunsAsk state.old link.0 Ask.Pulse (Ok (done (told_of result out))) state.new }
 {
-    let told = told_pulse(state, link);
+    let answered = told_pulse(state, link);
     sweep(state);
-    told
+    answered
 }
 
 /// Ends the sessions that lost their links 600 seconds ago or before.
@@ -105,54 +122,54 @@ fn sweep<K: Keeper>(state: &mut State<K>)
 }
 
 /// Whether the link's session lives, and since when the server is about to stop.
-fn told_pulse<K: Keeper>(state: &State<K>, link: LinkNumber) -> Told
-    ensures { result ≡ told_pulse state.now.world link.0 (session_at state.now.world link.0) }
+fn told_pulse<K: Keeper>(state: &State<K>, link: LinkNumber) -> Answered
+    ensures { (out : List ℕ) → told_of result out ≡ told_pulse state.now.world link.0 (session_at state.now.world link.0) }
 {
     if link.0 == 0 {
-        return Told::Live { drain: state.drain };
+        return Answered::Live { drain: state.drain };
     }
     match state.sessions.by_link(link) {
-        Some(_) => Told::Live { drain: state.drain },
-        None => Told::Displaced,
+        Some(_) => Answered::Live { drain: state.drain },
+        None => Answered::Displaced,
     }
 }
 
 /// Ends the link's session, and closes its forks.
-fn end_at<K: Keeper>(state: &mut State<K>, link: LinkNumber) -> Told
+fn end_at<K: Keeper>(state: &mut State<K>, link: LinkNumber) -> Answered
     requires { IsReadyToAsk state.old.world }
-    ensures { RunsAsk state.old link.0 Ask.Bye (Ok (done result)) state.new }
+    ensures { (out : List ℕ) → RunsAsk state.old link.0 Ask.Bye (Ok (done (told_of result out))) state.new }
 {
     match state.sessions.by_link(link) {
         Some(session) => {
             state.end(session);
-            Told::Done
+            Answered::Done
         }
-        None => Told::Displaced,
+        None => Answered::Displaced,
     }
 }
 
 /// The link was lost: its session waits for its client where it has a user, and ends else.
-fn lose_at<K: Keeper>(state: &mut State<K>, link: LinkNumber) -> Told
+fn lose_at<K: Keeper>(state: &mut State<K>, link: LinkNumber) -> Answered
     requires { IsReadyToAsk state.old.world }
-    ensures { RunsAsk state.old link.0 Ask.Lost (Ok (done result)) state.new }
+    ensures { (out : List ℕ) → RunsAsk state.old link.0 Ask.Lost (Ok (done (told_of result out))) state.new }
 {
     let Some(session) = state.sessions.by_link(link) else {
-        return Told::Displaced;
+        return Answered::Displaced;
     };
     if state.sessions.user(session).is_none() {
         state.end(session);
-        return Told::Done;
+        return Answered::Done;
     }
     state.sessions.detach(session, state.latest);
-    Told::Done
+    Answered::Done
 }
 
 /// The server is about to stop: the first such moment counts.
-fn drain<K: Keeper>(state: &mut State<K>) -> Told
-    ensures { (link : ℕ) → RunsAsk state.old link Ask.Drain (Ok (done result)) state.new }
+fn drain<K: Keeper>(state: &mut State<K>) -> Answered
+    ensures { (link : ℕ) → (out : List ℕ) → RunsAsk state.old link Ask.Drain (Ok (done (told_of result out))) state.new }
 {
     if state.drain.is_none() {
         state.drain = Some(state.latest);
     }
-    Told::Done
+    Answered::Done
 }

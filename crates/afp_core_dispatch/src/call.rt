@@ -1,19 +1,18 @@
 //! A call of a session: its steps in their order, and its row.
-ghost use Rattle.std.specs.Prelude.{◌≡◌, Some, IfOk};
+ghost use Rattle.std.specs.Prelude.{◌≡◌, ◌≤◌, Some, length};
 ghost use Rattle.afp_base.specs.Cached.{cached_answer};
-ghost use Rattle.afp_serial.specs.Answer.{verdict_of_block, verdict_of_row};
-ghost use Rattle.afp_serial.specs.KeptAnswers.{block_of};
-ghost use Rattle.afp_serial.specs.Rows.{refusal};
+ghost use Rattle.afp_base.specs.Limits.{payload_limit};
 ghost use Rattle.afp_serial.specs.World.{Session};
 ghost use Rattle.afp_core_state.specs.Running.{IsReady, RunsRow};
 ghost use Rattle.afp_core_state.specs.lemma.KeptWorld.{table_in};
 ghost use Rattle.session_table.specs.Sessions.{AreBelow, HasNone, session_of};
-ghost use Rattle.afp_core_dispatch.specs.Asks.{IsReadyToAsk};
+ghost use Rattle.afp_core_dispatch.specs.Asks.{IsReadyToAsk, told_in};
 ghost use Rattle.afp_core_dispatch.specs.lemma.Asks.{RunsCall};
-ghost use Rattle.afp_core_dispatch.specs.lemma.Keeping.{IsThere, IsToldAgain, RunsKept};
+ghost use Rattle.afp_core_dispatch.specs.lemma.Fits.{CallFits, HasRoom, VerdictFits};
+ghost use Rattle.afp_core_dispatch.specs.lemma.Keeping.{IsThere, IsToldAgain, RunsBlock, RunsKept, again_in};
 ghost use Rattle.afp_core_dispatch.specs.lemma.Requests.{as_request};
 
-use crate::keeping::{copied, keep};
+use crate::keeping::{keep, put_kept};
 use crate::login::{login, login_ext};
 use crate::logout::logout;
 use crate::request::Request;
@@ -21,7 +20,7 @@ use crate::server::{get_srvr_info, get_srvr_msg, get_srvr_parms};
 use crate::session_token::{disconnect_old_session, get_session_token};
 use crate::spelling::{Stop, spelled_call};
 use crate::user_calls::{get_user_info, map_id, map_name};
-use afp_base::{Bytes, LinkNumber, OutOfMemory, Room, SessionNumber};
+use afp_base::{LinkNumber, OutOfMemory, SessionNumber};
 use afp_calls::Call;
 use afp_core_bytes::byte_range_lock::{byte_range_lock, byte_range_lock_ext};
 use afp_core_bytes::read::{read, read_ext};
@@ -49,34 +48,43 @@ use afp_core_volumes::open_dir::{close_dir, open_dir};
 use afp_core_volumes::open_vol::open_vol;
 use afp_core_volumes::set_dir_parms::set_dir_parms;
 use afp_core_volumes::tree_changes::change_alone;
-use afp_serial::{Outcome, Told, told_at_most};
+use afp_serial::{Answered, Outcome, Told, put_told};
 use record_keeper::Keeper;
 
-/// Answers a request on a link: its session is found, what is kept for it, the call that it spells, and its row.
+/// Answers a request on a link, whose block is put at the front of `out`: its session is found, what is kept for it, the call that it spells, and
+/// its row.
 pub fn call<K: Keeper>(
     state: &mut State<K>,
     link: LinkNumber,
     request: Request,
-) -> Result<(Told, Outcome), OutOfMemory>
-    requires { IsReadyToAsk state.old.world }
-    ensures { RunsCall state.old link.0 (as_request request) result state.new }
+    out: &mut [u8],
+) -> Result<(Answered, Outcome), OutOfMemory>
+    requires ready { IsReadyToAsk state.old.world }
+    requires fits { CallFits state.old.world link.0 (as_request request) }
+    requires room { payload_limit ≤ length out.old }
+    ensures runs { RunsCall state.old link.0 (as_request request) (told_in result out.new) state.new }
+    ensures length { length out.new ≡ length out.old }
 {
     let Some(session) = state.sessions.by_link(link) else {
-        return Ok((Told::Displaced, Outcome::Done));
+        return Ok((Answered::Displaced, Outcome::Done));
     };
-    match kept_answer(state, session, &request)? {
-        Some(told) => Ok((told, Outcome::Done)),
-        None => answer(state, session, request),
+    match put_again(state, session, &request, out) {
+        Some(answered) => Ok((answered, Outcome::Done)),
+        None => answer(state, session, request, out),
     }
 }
 
-/// What is told again to an equal request of the session.
-fn kept_answer<K: Keeper>(
+/// Tells again what is kept for an equal request of the session. It takes no memory.
+fn put_again<K: Keeper>(
     state: &State<K>,
     session: SessionNumber,
     request: &Request,
-) -> Result<Option<Told>, OutOfMemory>
-    ensures { IfOk result (λ told. (x : Session) → session_of state.now.world.sessions session.0 ≡ Some x → IsToldAgain (cached_answer x.cache (as_request request.now)) told) }
+    out: &mut [u8],
+) -> Option<Answered>
+    requires there { IsThere state.now session.0 }
+    requires room { HasRoom state.now session.0 (as_request request.now) (length out.old) }
+    ensures told { (x : Session) → session_of state.now.world.sessions session.0 ≡ Some x → IsToldAgain (cached_answer x.cache (as_request request.now)) (again_in result out.new) }
+    ensures length { length out.new ≡ length out.old }
 {
     match state.sessions.kept(
         session,
@@ -85,71 +93,59 @@ fn kept_answer<K: Keeper>(
         request.offset,
         request.payload.as_slice(),
     ) {
-        Some(answer) => Ok(Some(Told::Reply {
-            code: answer.code,
-            block: answer.block.copy()?,
-            ends: false,
-        })),
-        None => Ok(None),
+        Some(answer) => Some(put_kept(answer, out)),
+        None => None,
     }
 }
 
-/// Answers a request of a session that keeps no answer for it.
+/// Answers a request of a session that keeps no answer for it, and keeps what it tells.
 fn answer<K: Keeper>(
     state: &mut State<K>,
     session: SessionNumber,
     request: Request,
-) -> Result<(Told, Outcome), OutOfMemory>
+    out: &mut [u8],
+) -> Result<(Answered, Outcome), OutOfMemory>
     requires ready { IsReadyToAsk state.old.world }
     requires there { IsThere state.old session.0 }
     requires fresh { HasNone (table_in state.old.world) session.0 (as_request request) }
-    ensures { RunsKept state.old session.0 (as_request request) (λ w s. verdict_of_block w s (as_request request) (block_of (as_request request))) result state.new }
+    requires fits { VerdictFits state.old session.0 (as_request request) }
+    requires room { payload_limit ≤ length out.old }
+    ensures runs { RunsKept state.old session.0 (as_request request) (told_in result out.new) state.new }
+    ensures length { length out.new ≡ length out.old }
+{
+    let (told, outcome) = told_to(state, session, &request)?;
+    let answered = put_told(&told, out);
+    keep(state, session, request, told);
+    Ok((answered, outcome))
+}
+
+/// What a request of a session is told for which none is kept: it is refused, or its call comes to its row.
+fn told_to<K: Keeper>(
+    state: &mut State<K>,
+    session: SessionNumber,
+    request: &Request,
+) -> Result<(Told, Outcome), OutOfMemory>
+    requires { IsReadyToAsk state.old.world }
+    ensures { RunsBlock state.old session.0 (as_request request.now) result state.new }
 {
     let has_user = state.sessions.user(session).is_some();
-    match spelled_call(state.alloc, has_user, &request) {
-        Ok(call) => run(state, session, request, call),
-        Err(Stop::Refused(code)) => {
-            let told = refused(state.alloc, code);
-            let block = Bytes::new(state.alloc);
-            keep(state, session, request, &told, block);
-            Ok((told, Outcome::Done))
-        }
+    match spelled_call(state.alloc, has_user, request) {
+        Ok(call) => run(state, session, call),
+        Err(Stop::Refused(code)) => Ok((refused(state.alloc, code), Outcome::Done)),
         Err(Stop::Memory) => Err(OutOfMemory),
     }
 }
 
-/// Runs the row of a call of a session, keeps what it tells, and lets go of the call.
+/// Runs the row of a call of a session, and lets go of the call.
 fn run<K: Keeper>(
     state: &mut State<K>,
     session: SessionNumber,
-    request: Request,
-    call: Call,
+    call: Call<'_>,
 ) -> Result<(Told, Outcome), OutOfMemory>
-    requires ready { IsReadyToAsk state.old.world }
-    requires there { IsThere state.old session.0 }
-    requires fresh { HasNone (table_in state.old.world) session.0 (as_request request) }
-    ensures { RunsKept state.old session.0 (as_request request) (λ w s. verdict_of_row call (refusal w s call)) result state.new }
+    requires { IsReadyToAsk state.old.world }
+    ensures { RunsRow state.old session.0 call.entry result state.new }
 {
-    run_kept(state, session, request, &call)
-}
-
-/// The same. A copy of what a row tells that changes something goes into room that was taken before.
-fn run_kept<K: Keeper>(
-    state: &mut State<K>,
-    session: SessionNumber,
-    request: Request,
-    call: &Call,
-) -> Result<(Told, Outcome), OutOfMemory>
-    requires ready { IsReadyToAsk state.old.world }
-    requires there { IsThere state.old session.0 }
-    requires fresh { HasNone (table_in state.old.world) session.0 (as_request request) }
-    ensures { RunsKept state.old session.0 (as_request request) (λ w s. verdict_of_row call.now (refusal w s call.now)) result state.new }
-{
-    let room = Room::new(state.alloc, told_at_most(call))?;
-    let (told, outcome) = row(state, session, call)?;
-    let block = copied(state.alloc, room, &told)?;
-    keep(state, session, request, &told, block);
-    Ok((told, outcome))
+    row(state, session, &call)
 }
 
 /// The row of a call of a session.
@@ -418,7 +414,14 @@ fn row<K: Keeper>(
             piece,
             ..
         } => add_icon(
-            state, session, *dt, *creator, *kind, *icon_kind, *tag, piece,
+            state,
+            session,
+            *dt,
+            *creator,
+            *kind,
+            *icon_kind,
+            *tag,
+            piece.as_slice(),
         ),
     }
 }

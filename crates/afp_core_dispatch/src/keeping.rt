@@ -1,19 +1,20 @@
 //! What a call is told is kept, so that it is told again.
-ghost use Rattle.std.specs.Prelude.{◌≡◌};
+ghost use Rattle.std.specs.Prelude.{◌≡◌, ◌≤◌, false, length};
+ghost use Rattle.afp_serial.specs.Answered.{told_of};
+ghost use Rattle.afp_serial.specs.declared.ask.Told.{Told};
 ghost use Rattle.afp_serial.specs.KeptAnswers.{block_of, is_kept_code, is_kept_command, kept_answer};
 ghost use Rattle.afp_core_state.specs.lemma.KeptWorld.{table_in};
 ghost use Rattle.session_table.specs.Sessions.{HasNone};
-ghost use Rattle.afp_core_dispatch.specs.lemma.Keeping.{IsCopied, block_in, keeps};
+ghost use Rattle.afp_core_dispatch.specs.lemma.Keeping.{keeps};
 ghost use Rattle.afp_core_dispatch.specs.lemma.Requests.{as_request};
 
 use crate::request::Request;
-use afp_base::{Bytes, Code, OutOfMemory, Room, SessionNumber};
+use afp_base::{Code, SessionNumber};
 use afp_calls::commands::{DISCONNECT_OLD_SESSION, GET_SESSION_TOKEN, LOGIN, LOGIN_EXT, LOGOUT};
 use afp_core_state::State;
-use afp_serial::Told;
+use afp_serial::{Answered, Told};
 use record_keeper::Keeper;
 use replay_cache::{Answer, Request as KeptRequest};
-use std::alloc::Global;
 
 /// The commands whose answers are not kept.
 const COMMANDS_NOT_KEPT: [u8; 5] = [
@@ -24,32 +25,30 @@ const COMMANDS_NOT_KEPT: [u8; 5] = [
     DISCONNECT_OLD_SESSION,
 ];
 
-/// A copy of the bytes of what is told. The one error is want of memory where they are more than there is room for.
-pub fn copied(alloc: Global, room: Room, told: &Told) -> Result<Bytes, OutOfMemory>
-    ensures { IsCopied room told.now result }
+/// Puts an answer that is kept at the front of a buffer, to be told again. It takes no memory.
+pub fn put_kept(answer: &Answer, out: &mut [u8]) -> Answered
+    requires room { length answer.now.block ≤ length out.old }
+    ensures told { told_of result out.new ≡ Told.Reply answer.now.code answer.now.block false }
+    ensures length { length out.new ≡ length out.old }
 {
-    match told {
-        Told::Reply { block, .. } => room.copied(alloc, block.as_slice()),
-        _ => Ok(Bytes::new(alloc)),
+    let block = answer.block.as_slice();
+    out[..block.len()].copy_from_slice(block);
+    Answered::Reply {
+        code: answer.code,
+        size: block.len(),
+        ends: false,
     }
 }
 
-/// Keeps what a request is told, where it is to be kept; `block`: a copy of its bytes.
-pub fn keep<K: Keeper>(
-    state: &mut State<K>,
-    session: SessionNumber,
-    request: Request,
-    told: &Told,
-    block: Bytes,
-)
-    requires fresh { HasNone (table_in state.old.world) session.0 (as_request request) }
-    requires copy { block ≡ block_in told.now }
-    ensures { state.new ≡ keeps state.old session.0 (kept_answer (as_request request) told.now) (as_request request) }
+/// Keeps what a request was told, where it is to be kept: the block itself, and no copy.
+pub fn keep<K: Keeper>(state: &mut State<K>, session: SessionNumber, request: Request, told: Told)
+    requires { HasNone (table_in state.old.world) session.0 (as_request request) }
+    ensures { state.new ≡ keeps state.old session.0 (kept_answer (as_request request) told) (as_request request) }
 {
-    let Told::Reply { code, .. } = told else {
+    let Told::Reply { code, block, .. } = told else {
         return;
     };
-    if !is_kept_code(*code) {
+    if !is_kept_code(code) {
         return;
     }
     if !is_kept_command(&request) {
@@ -67,9 +66,7 @@ pub fn keep<K: Keeper>(
         offset,
         payload,
     };
-    state
-        .sessions
-        .keep(session, kept, Answer { code: *code, block });
+    state.sessions.keep(session, kept, Answer { code, block });
 }
 
 /// Whether a reply with this code is kept.

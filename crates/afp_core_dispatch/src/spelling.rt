@@ -22,7 +22,11 @@ pub enum Stop {
 }
 
 /// The call that a request of a session spells; `has_user`: somebody has logged in to the session.
-pub fn spelled_call(alloc: Global, has_user: bool, request: &Request) -> Result<Call, Stop>
+pub fn spelled_call<'a>(
+    alloc: Global,
+    has_user: bool,
+    request: &'a Request,
+) -> Result<Call<'a>, Stop>
     ensures { IsSpelled has_user (as_request request.now) result }
 {
     let payload = request.payload.as_slice();
@@ -35,12 +39,12 @@ pub fn spelled_call(alloc: Global, has_user: bool, request: &Request) -> Result<
 }
 
 /// The same of a block, and the bytes that are enclosed in a Write.
-fn judged_call(
+fn judged_call<'a>(
     alloc: Global,
     has_user: bool,
-    block: &[u8],
-    enclosed: Option<&[u8]>,
-) -> Result<Call, Stop>
+    block: &'a [u8],
+    enclosed: Option<&'a [u8]>,
+) -> Result<Call<'a>, Stop>
     ensures { IsJudged has_user block.now (option_copied enclosed.entry) result }
 {
     let Some(command) = block.first() else {

@@ -14,7 +14,7 @@ ghost use Rattle.afp_core_state.specs.Running.{IsReady, RunsRow};
 
 use afp_base::{Bytes, Code, ForkRef, OutOfMemory, SessionNumber};
 use afp_bitmap::{FileBits, is_outside};
-use afp_core_state::{State, done, refused};
+use afp_core_state::{State, done, parms_room, refused};
 use afp_serial::{Outcome, Told};
 use deny_modes::ForkKey;
 use record_keeper::Keeper;
@@ -52,7 +52,7 @@ fn parms_block<K: Keeper>(
     ensures { IfOk result (λ block. (v : VolumeState) (file : Row) → slice_get state.now.world.volumes index ≡ Some v → row_at v.rows fork.node ≡ Some file
         → block ≡ canonical_reply (Params bits (fork_values (opened_on state.now.world fork.volume) bits file))) }
 {
-    let mut block = Bytes::new(state.alloc);
+    let mut block = parms_room(state.alloc)?;
     block.push_u16(bits)?;
     put_file_params(state, index, fork, bits, &mut block)?;
     Ok(block)

@@ -18,7 +18,7 @@ ghost use Rattle.afp_core_state.specs.Running.{IsReady, done as with_done, RunsR
 use crate::get_fork_parms::put_file_params;
 use afp_base::{Bytes, Code, ForkRef, NodeId, OutOfMemory, SessionNumber, VolumeId};
 use afp_core_state::laws::closing_undoes_an_open;
-use afp_core_state::{State, done, refused};
+use afp_core_state::{State, done, parms_room, refused};
 use afp_names::Path;
 use afp_serial::fork_laws::references_are_lowest;
 use afp_serial::{Outcome, Told};
@@ -153,7 +153,7 @@ fn opened_block<K: Keeper>(
     ensures { IfOk result (λ block. (v : VolumeState) (file : Row) → slice_get state.now.world.volumes index ≡ Some v → row_at v.rows fork.node ≡ Some file
         → block ≡ canonical_reply (Opened bits reference (fork_values (opened_on state.now.world fork.volume) bits file))) }
 {
-    let mut block = Bytes::new(state.alloc);
+    let mut block = parms_room(state.alloc)?;
     block.push_u16(bits)?;
     block.push_u16(reference.0)?;
     put_file_params(state, index, fork, bits, &mut block)?;

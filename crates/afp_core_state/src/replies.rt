@@ -1,5 +1,5 @@
 //! What calls are told.
-ghost use Rattle.std.specs.Prelude.{◌≡◌, false};
+ghost use Rattle.std.specs.Prelude.{◌≡◌, [], false, IfOk};
 ghost use Rattle.afp_core_state.specs.Replies.{Tells, TellsChanged, TellsSettled};
 ghost use Rattle.afp_base.specs.declared.code.Code.{Code};
 ghost use Rattle.afp_serial.specs.declared.ask.Told.{Told};
@@ -11,6 +11,16 @@ use record_keeper::KeeperFault;
 use std::alloc::Global;
 use volume_keeper_commit::ChangeFault;
 use volume_tree::PlanFault;
+
+/// Bytes that most replies with parameters do not pass: their memory is taken once.
+const PARMS_ROOM: usize = 128;
+
+/// No bytes, with room for the parameters that a reply tells.
+pub fn parms_room(alloc: Global) -> Result<Bytes, OutOfMemory>
+    ensures { IfOk result (λ block. block ≡ []) }
+{
+    Bytes::with_room(alloc, PARMS_ROOM)
+}
 
 /// A reply with no bytes, behind which the session goes on.
 pub fn refused(alloc: Global, code: Code) -> Told

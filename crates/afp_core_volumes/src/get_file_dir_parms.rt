@@ -2,8 +2,8 @@
 ghost use Rattle.afp_calls_grammar.specs.declared.call.Call.{Call};
 ghost use Rattle.afp_core_state.specs.Running.{RunsRow};
 
-use afp_base::{Bytes, Code, NodeId, OutOfMemory, SessionNumber, VolumeId};
-use afp_core_state::{State, refused, told_of};
+use afp_base::{Code, NodeId, OutOfMemory, SessionNumber, VolumeId};
+use afp_core_state::{State, parms_room, refused, told_of};
 use afp_names::Path;
 use afp_serial::{Outcome, Told};
 use record_keeper::Keeper;
@@ -24,7 +24,7 @@ pub fn get_file_dir_parms<K: Keeper>(
         return Ok((refused(state.alloc, Code::ParamErr), Outcome::Done));
     };
     let opens = state.forks.on(volume);
-    let mut block = Bytes::new(state.alloc);
+    let mut block = parms_room(state.alloc)?;
     let answer = state.kept_at(index).get_file_dir_parms(
         state.alloc,
         state.user(session),

@@ -2,8 +2,8 @@
 ghost use Rattle.afp_calls_grammar.specs.declared.call.Call.{Call};
 ghost use Rattle.afp_core_state.specs.Running.{RunsRow};
 
-use afp_base::{Bytes, Code, OutOfMemory, SessionNumber, VolumeId};
-use afp_core_state::{State, refused, told_of};
+use afp_base::{Code, OutOfMemory, SessionNumber, VolumeId};
+use afp_core_state::{State, parms_room, refused, told_of};
 use afp_serial::{Outcome, Told};
 use record_keeper::Keeper;
 
@@ -19,7 +19,7 @@ pub fn get_vol_parms<K: Keeper>(
     let Some(index) = state.opened(session, volume) else {
         return Ok((refused(state.alloc, Code::ParamErr), Outcome::Done));
     };
-    let mut block = Bytes::new(state.alloc);
+    let mut block = parms_room(state.alloc)?;
     let answer = state
         .kept_at(index)
         .get_vol_parms(state.alloc, volume, bits, &mut block);

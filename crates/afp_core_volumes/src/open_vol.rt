@@ -13,7 +13,7 @@ ghost use Rattle.afp_core_state.specs.Running.{RunsRow};
 
 use afp_base::{Bytes, Code, OutOfMemory, SessionNumber, VolumeId};
 use afp_bitmap::{VolumeBits, is_outside};
-use afp_core_state::{State, done, refused};
+use afp_core_state::{State, done, parms_room, refused};
 use afp_serial::{Outcome, Told};
 use record_keeper::Keeper;
 
@@ -58,7 +58,7 @@ fn volume_block<K: Keeper>(
     requires { get_vol_parms_refusal bits ≡ None }
     ensures { IfOk result (λ block. (v : VolumeState) → volume_at state.now.world.volumes volume.0 ≡ Some v → block ≡ canonical_reply (open_vol_reply bits volume.0 v)) }
 {
-    let mut block = Bytes::new(state.alloc);
+    let mut block = parms_room(state.alloc)?;
     let Some(index) = state.index(volume) else {
         return Ok(block);
     };

@@ -26,7 +26,7 @@ use Rattle.afp_desk.specs.declared.view.Stage.TheVariants.{Idle, Waiting, Served
 use Rattle.afp_desk.specs.declared.view.View.{View}
 use Rattle.afp_desk.specs.Totals.{total, one_if, times}
 use Rattle.afp_desk.specs.Rule.{all_shares, newcomer, left_of, right_of, echo_of, both_of, spent, waits_in, holds_in, share_of, waits, holds_ticket, has_place, one_between, Knows, Fits, IsSpent, IsOut, IsKept}
-use Rattle.afp_desk.specs.Plays.{Mine, at_stage, ticket_in, Draws, served_view, Takes, Looks, settled_if, settled, Settles, Call, added_view, Enters, DecidesAs, Decides}
+use Rattle.afp_desk.specs.Plays.{Mine, at_stage, ticket_in, Draws, served_view, Takes, Looks, Glances, settled_if, settled, Settles, Call, added_view, Enters, DecidesAs, Decides}
 use Rattle.afp_desk.specs.Calls.{IsServed, IsWaiting}
 use Rattle.afp_desk.proofs.Growing.{rising-more, lawful-part, stands-more, stands-none}
 use Rattle.afp_desk.proofs.Totals.{leb-false, total-set, total-snoc, total-one, total-two, total-less, one-same, times-append, times-merge, rising-merge, between-in, between-drawn, between-served, between-range, between-most, between-none, total-alone, times-above}
@@ -163,6 +163,9 @@ module _ (start : ServerState) where
     unmoved : (i id : ℕ) (me : Mine) → get_elem? s.views id ≡ some me.0 → set s.words i (slice_index s.words i) ≡ s.words → IsKept start record { words = set s.words i (slice_index s.words i); homes = s.homes; views = set s.views id me.0 }
     unmoved i id me at words = subst (λ (x : List ℕ × List View). IsKept start record { words = x.0; homes = s.homes; views = x.1 }) (λ k. (sym words k, sym (set_again s.views id me.0 at) k)) r
 
+    same-first : set s.words 0 (slice_index s.words 0) ≡ s.words
+    same-first = ap (λ ws. set ws 0 (slice_index ws 0)) r.words ∙ sym r.words
+
     same-word : set s.words 1 (slice_index s.words 1) ≡ s.words
     same-word = ap (λ ws. set ws 1 (slice_index ws 1)) r.words ∙ sym r.words
 
@@ -235,6 +238,9 @@ module _ (start : ServerState) where
 
   pub looks : (slots id : ℕ) (me : Mine) (t : ℕ) → me.0.stage ≡ Waiting t → 0 < me.0.share → me.1 ≡ [] → Allows (IsKept start) slots id me 1 (λ n. n) (Looks (step slots 1 0 0 none) me)
   looks slots id me t is live empty s r _ at _ = looks-at s r id me t is live empty at
+
+  pub glances : (slots id : ℕ) (me : Mine) → Allows (IsKept start) slots id me 0 (λ n. n) (Glances (step slots 0 0 0 none) me)
+  glances slots id me s r _ at _ = (me.0, keeps, tt, unmoved s r 0 id me at (same-first s r), refl)
 
   -- what was known goes on to be known as the history grows
   knows-more : (h ext : List Entry) (c d : ServerState) (seen : List Entry) (then : ServerState) → Rises (faults_in ext) (sum c.faults) (sum d.faults) → (ext ≡ [] → c ≡ d) → Knows h c seen then → Knows (h ++ ext) d seen then

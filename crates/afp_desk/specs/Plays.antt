@@ -57,6 +57,10 @@ pub record Takes (me : Mine) (me' : Mine) : Type 0 where
 abbrev pub Looks : Step (Option ServerState) → Mine → ℕ → Mine → Type 0
 Looks s me found me' = MatchBool (found == ticket_in me.0.stage % 2 ^ 64) (Takes me me') (me' ≡ me)
 
+-- a glance at the tickets that were drawn changes nothing
+abbrev pub Glances : Step (Option ServerState) → Mine → ℕ → Mine → Type 0
+Glances s me found me' = me' ≡ me
+
 -- by whether the other history is the longer one
 abbrev pub settled_if : Bool → View → View
 settled_if true v = record v { seen = v.other; core = v.other_core; other = []; other_core = v.start }

@@ -7,7 +7,7 @@ use crate::turn::take_turn;
 use crate::view::View;
 use afp_base::{LinkNumber, Moment};
 use afp_core::Core;
-use afp_serial::{Ask, Told};
+use afp_serial::{Answered, Ask};
 use atomic_table::{Badge, Refused, Table};
 use record_keeper::Keeper;
 use std::alloc::Global;
@@ -31,7 +31,9 @@ pub struct Trace {
 }
 
 impl<K: Keeper> Desk<K> {
-    ghost use Rattle.std.specs.Prelude.{◌≡◌, ◌≤◌, ◌+◌, ◌-◌, ◌/◌, ◌<◌, IfOk, IfErr, [], ◌∷◌, true};
+    ghost use Rattle.std.specs.Prelude.{◌≡◌, ◌≤◌, ◌+◌, ◌-◌, ◌/◌, ◌<◌, IfOk, IfErr, [], ◌∷◌, length, true};
+    ghost use Rattle.afp_base.specs.Limits.{payload_limit};
+    ghost use Rattle.afp_serial.specs.Answered.{tells_bytes, told_of};
     ghost use Rattle.afp_serial.specs.Shown.{Shown, Asked, is_answer_to, fits_frame};
     ghost use Rattle.afp_serial.specs.declared.ask.Told.TheVariants as told;
     ghost use Rattle.afp_core_dispatch.specs.Asks.{takes_memory};
@@ -72,7 +74,7 @@ impl<K: Keeper> Desk<K> {
         Pass { seat, parts }
     }
 
-    /// Asks the core, once it is this call's turn.
+    /// Asks the core, once it is this call's turn; the block of a reply is put at the front of `out`.
     pub fn call<R: Wait>(
         &self,
         rt: &R,
@@ -80,16 +82,19 @@ impl<K: Keeper> Desk<K> {
         now: Moment,
         link: LinkNumber,
         ask: Ask,
-    ) -> Told
-        requires { IsOf self.now pass.old }
+        out: &mut [u8],
+    ) -> Answered
+        requires desk { IsOf self.now pass.old }
+        requires room { tells_bytes ask ≡ true → payload_limit ≤ length out.old }
         ensures desk { IsOf self.now pass.new }
-        ensures asked { Asked (shown pass.old) now link ask result (shown pass.new) }
-        ensures answers { is_answer_to ask result ≡ true }
-        ensures size { fits_frame result ≡ true }
-        ensures memory { result ≡ told.Memory → takes_memory ask ≡ true }
+        ensures asked { Asked (shown pass.old) now link ask (told_of result out.new) (shown pass.new) }
+        ensures answers { is_answer_to ask (told_of result out.new) ≡ true }
+        ensures size { fits_frame (told_of result out.new) ≡ true }
+        ensures length { length out.new ≡ length out.old }
+        ensures memory { told_of result out.new ≡ told.Memory → takes_memory ask ≡ true }
         ensures share { share pass.new ≡ share pass.old }
     {
-        take_turn(rt, &self.table.shared, &mut pass.seat, now, link, ask)
+        take_turn(rt, &self.table.shared, &mut pass.seat, now, link, ask, out)
     }
 
     /// The pass has the calls and the shares of both, and shows the longer history.

@@ -1,15 +1,17 @@
 //! One turn of a seat, on the table.
-ghost use Rattle.std.specs.Prelude.{◌≡◌, ◌+◌, ◌%◌, ◌^◌, ◌<◌, ◌∷◌, [], Some};
+ghost use Rattle.std.specs.Prelude.{◌≡◌, ◌+◌, ◌%◌, ◌^◌, ◌<◌, ◌≤◌, ◌∷◌, [], Some, length, true};
+ghost use Rattle.afp_base.specs.Limits.{payload_limit};
+ghost use Rattle.afp_serial.specs.Answered.{tells_bytes, told_of};
 ghost use Rattle.afp_core.specs.ServerState.{ServerState};
 ghost use Rattle.afp_core.specs.Turn.{TakesTurn};
 ghost use Rattle.afp_desk.specs.Plays.{Takes, DecidesAs};
 ghost use Rattle.afp_desk.specs.Calls.{IsWaiting, IsServed, call_of, Rests, AskedAt};
 
-use crate::plays::{Decide, Draw, InTurn, Look, Made};
+use crate::plays::{Decide, Draw, Glance, InTurn, Look, Made};
 use crate::view::View;
 use afp_base::{LinkNumber, Moment};
 use afp_core::Core;
-use afp_serial::{Ask, Told};
+use afp_serial::{Answered, Ask};
 use atomic_table::{Seat, Shared};
 use record_keeper::Keeper;
 use std::marker::Brand;
@@ -44,19 +46,31 @@ fn decide<K: Keeper, E: Made>(
     now: Moment,
     link: LinkNumber,
     ask: &Snapshot<Ask>,
-    told: &Told,
+    answered: &Answered,
+    out: &[u8],
 )
     requires table { (seat.old.table_id ≡ table.now.table_id) × (table.now.table_id.words ≡ 2) × (table.now.table_id.slots ≡ 1) }
-    requires call { E.call ≡ call_of now link ask.now.value told.now }
+    requires call { E.call ≡ call_of now link ask.now.value (told_of answered.now out.now) }
     requires served { IsServed seat.old.me }
-    requires turned { (core : ServerState) × (seat.old.me.1 ≡ (0, Some core) ∷ []) × TakesTurn seat.old.me.0.core now link ask.now.value told.now core }
+    requires turned { (core : ServerState) × (seat.old.me.1 ≡ (0, Some core) ∷ []) × TakesTurn seat.old.me.0.core now link ask.now.value (told_of answered.now out.now) core }
     ensures same { (seat.new.table_id ≡ seat.old.table_id) × (seat.new.id ≡ seat.old.id) }
-    ensures decides { DecidesAs told.now (call_of now link ask.now.value told.now) seat.old.me seat.new.me }
+    ensures decides { DecidesAs (told_of answered.now out.now) (call_of now link ask.now.value (told_of answered.now out.now)) seat.old.me seat.new.me }
 {
     table.fetch_add::<Decide<E>>(seat, 1, 1);
 }
 
-/// A whole turn.
+/// Wakes those that wait, where somebody drew a ticket behind this one. Whoever draws later finds it served.
+fn wake_others<K: Keeper>(table: &CoreTable<K>, seat: &mut CoreSeat<K>, ticket: u64)
+    requires table { (seat.old.table_id ≡ table.now.table_id) × (table.now.table_id.words ≡ 2) × (table.now.table_id.slots ≡ 1) }
+    ensures same { (seat.new.table_id ≡ seat.old.table_id) × (seat.new.id ≡ seat.old.id) }
+    ensures stays { seat.new.me ≡ seat.old.me }
+{
+    if table.load::<Glance>(seat, 0) != ticket.wrapping_add(1) {
+        table.wake_all(1);
+    }
+}
+
+/// A whole turn; the block of a reply is put at the front of `out`.
 pub(crate) fn take_turn<K: Keeper, R: Wait>(
     rt: &R,
     table: &CoreTable<K>,
@@ -64,11 +78,14 @@ pub(crate) fn take_turn<K: Keeper, R: Wait>(
     now: Moment,
     link: LinkNumber,
     ask: Ask,
-) -> Told
+    out: &mut [u8],
+) -> Answered
     requires table { (seat.old.table_id ≡ table.now.table_id) × (table.now.table_id.words ≡ 2) × (table.now.table_id.slots ≡ 1) }
     requires rests { Rests seat.old.me }
+    requires room { tells_bytes ask ≡ true → payload_limit ≤ length out.old }
     ensures same { (seat.new.table_id ≡ seat.old.table_id) × (seat.new.id ≡ seat.old.id) }
-    ensures asked { AskedAt seat.old.me.0 now link ask result seat.new.me.0 }
+    ensures asked { AskedAt seat.old.me.0 now link ask (told_of result out.new) seat.new.me.0 }
+    ensures length { length out.new ≡ length out.old }
     ensures rests { Rests seat.new.me }
 {
     let asked = Snapshot::of(&ask);
@@ -77,11 +94,11 @@ pub(crate) fn take_turn<K: Keeper, R: Wait>(
     let Some(mut core) = table.exchange(seat, 0, None) else {
         unreachable!()
     };
-    let told = core.turn(now, link, ask);
+    let answered = core.turn(now, link, ask, out);
     let None = table.exchange(seat, 0, Some(core)) else {
         unreachable!()
     };
-    decide::<K, Brand>(table, seat, now, link, &asked, &told);
-    table.wake_all(1);
-    told
+    decide::<K, Brand>(table, seat, now, link, &asked, &answered, out);
+    wake_others(table, seat, ticket);
+    answered
 }

@@ -64,7 +64,6 @@ pub mod KeptFound
 pub mod PlainSessions
 pub mod ListShown
 pub mod ParmsShown
-pub mod LongAnswers
 pub mod EndsOneByOne
 pub mod Tokens
 pub mod SessionLists

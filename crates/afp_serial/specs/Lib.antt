@@ -49,10 +49,10 @@ pub mod Appls
 pub mod Comments
 pub mod Rows
 pub mod SessionLaws
-pub mod ToldAtMost
 pub mod SweepLaws
 pub mod LawfulCall
 pub mod Answer
+pub mod Answered
 pub mod History
 pub mod Shown
 pub mod Went

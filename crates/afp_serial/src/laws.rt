@@ -9,7 +9,6 @@ ghost use Rattle.afp_serial.specs.SessionLaws as session_laws;
 ghost use Rattle.afp_serial.specs.SessionViews as session_views;
 ghost use Rattle.afp_serial.specs.SweepLaws as sweep_laws;
 ghost use Rattle.afp_serial.specs.Token as token;
-ghost use Rattle.afp_serial.specs.ToldAtMost as told_at_most;
 
 use afp_base::laws::repeat_finds_newest;
 use volume_spec::edit_laws::{edits_draw_ids_once, effects_are_edits};
@@ -123,11 +122,6 @@ pub fn faults_are_told_of_this_ask()
 pub fn sessions_that_are_gone_end_one_by_one()
     ensures one { sweep_laws.EndsOneByOne }
     ensures none { sweep_laws.EndsNone }
-{}
-
-/// In a sound world a call that is told more than `told_at_most` says of it changes nothing, and commits to no volume's keeper and settles none.
-pub fn what_tells_much_changes_nothing()
-    ensures { told_at_most.LongTellsAlone }
 {}
 
 /// A call that changes a volume by edits, copies a file or exchanges two commits what it changes to the volume's keeper: where it commits nothing it changes

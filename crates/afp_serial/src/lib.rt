@@ -2,6 +2,7 @@
 //! asks out of one history.
 #![tactic(auto)]
 
+mod answered;
 mod ask;
 mod attachment;
 mod checks;
@@ -15,9 +16,9 @@ pub mod session_laws;
 mod status;
 pub mod status_words;
 mod teller;
-mod told_size;
 mod user;
 
+pub use answered::{Answered, put_told};
 pub use ask::{Ask, Entry, Outcome, Told};
 pub use attachment::Attachment;
 pub use checks::{has_user_named, has_volume_named, is_name};
@@ -25,5 +26,4 @@ pub use house::House;
 pub use house_fault::HouseFault;
 pub use ranges::{entry_in_range, moment_in_range};
 pub use teller::Teller;
-pub use told_size::told_at_most;
 pub use user::User;

@@ -59,7 +59,7 @@ fn drain<T: Teller>(teller: &mut T)
     let Some(first) = Moment::new(0) else {
         unreachable!()
     };
-    teller.ask(first, LinkNumber(0), Ask::Drain);
+    teller.ask(first, LinkNumber(0), Ask::Drain, &mut []);
 }
 
 /// Asks to drain, where the door is closed.

@@ -5,7 +5,7 @@ use Rattle.afp_core_dispatch.proofs.asks.drain.Goals as goal
 use Rattle.afp_core_dispatch.proofs.asks.drain.Goals.{then-is_none, else-is_none}
 
 pub returns : goal.returns
-returns g c = λ link.
+returns g c = λ link out.
     elim c.if-is_none.branch [
       | then-is_none w ↦ drain-runs c.args.state.now c.if-is_none.state link (Some c.args.state.now.world.latest)
           (w.state-is ∙ ap (λ (k : KeptWorld). with_drain k (Some k.world.latest)) c.state.view_is)

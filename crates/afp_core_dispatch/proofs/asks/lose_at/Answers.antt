@@ -14,16 +14,16 @@ pub end-requires : goal.end-requires
 end-requires g c = ready c.args.state.now.world c.requires
 
 pub returns-in_default : goal.returns-in_default
-returns-in_default g c = lost-displaced c.args.state.now c.args.link.0 (ap (λ (k : KeptWorld). session_at k.world c.args.link.0) (sym c.state.view_is) ∙ c.in_default.ensures)
+returns-in_default g c = λ out. lost-displaced c.args.state.now c.args.link.0 (ap (λ (k : KeptWorld). session_at k.world c.args.link.0) (sym c.state.view_is) ∙ c.in_default.ensures)
 
 pub returns-then-is_none : goal.returns-then-is_none
-returns-then-is_none g c =
+returns-then-is_none g c = λ out.
     let at = subst (λ (k : KeptWorld). IsAt k.world.sessions c.args.link.0 c.in-Some.session.0) c.state.view_is c.in-Some.ensures in
     lost-ends c.args.state.now _ c.args.link.0 c.in-Some.session.0 at
     (ap is_some (sym (c.user.ensures at.session (ap (λ (k : KeptWorld). session_of k.world.sessions c.in-Some.session.0) c.state.view_is ∙ at.numbered))) ∙ c.if-is_none.ensures) c.end.ensures
 
 pub returns : goal.returns
-returns g c =
+returns g c = λ out.
     let at = subst (λ (k : KeptWorld). IsAt k.world.sessions c.args.link.0 c.in-Some.session.0) c.state.view_is c.in-Some.ensures in
     lost-waits c.args.state.now _ c.args.link.0 c.in-Some.session.0 c.detach.new.self at
     (ap is_some (sym (c.user.ensures at.session (ap (λ (k : KeptWorld). session_of k.world.sessions c.in-Some.session.0) c.state.view_is ∙ at.numbered))) ∙ c.if-is_none.ensures)

@@ -1,4 +1,4 @@
-use Rattle.std.proofs.Common.{◌∙◌, ap, sym, subst}
+use Rattle.std.proofs.Common.{◌∙◌, ap, sym, refl, subst}
 use Rattle.std.specs.Prelude.{Ok, Err}
 use Rattle.afp_core_state.specs.KeptWorld.{KeptWorld}
 use Rattle.afp_core_state.specs.lemma.KeptWorld.{table_in, with_table}
@@ -19,10 +19,10 @@ returns g c =
     elim c.match-open.branch [
       | in-Ok w ↦
           rw w.result-is
-          (λ link attention. open-runs old _ link attention c.open.new.self w.in-Ok.link (subst (λ (k : KeptWorld). Opens (table_in k.world) (Ok w.in-Ok.link) c.open.new.self) c.state.view_is w.in-Ok.ensures) is)
+          (λ link attention out. open-runs old _ link attention c.open.new.self w.in-Ok.link (subst (λ (k : KeptWorld). Opens (table_in k.world) (Ok w.in-Ok.link) c.open.new.self) c.state.view_is w.in-Ok.ensures) is)
       | in-Err-Full w ↦
           rw w.result-is
-          (λ link attention. open-refused old _ link attention c.open.new.self _ (subst (λ (k : KeptWorld). Opens (table_in k.world) (Err Full) c.open.new.self) c.state.view_is (rw w.in-Err-Full.field-0-is at w.in-Err-Full.ensures)) is w.refused.ensures)
+          (λ link attention out. open-refused old _ link attention c.open.new.self _ (subst (λ (k : KeptWorld). Opens (table_in k.world) (Err Full) c.open.new.self) c.state.view_is (rw w.in-Err-Full.field-0-is at w.in-Err-Full.ensures)) is refl)
       | in-Err-Memory w ↦
           rw w.result-is
           (is ∙ ap (with_table old) (subst (λ (k : KeptWorld). Opens (table_in k.world) (Err Memory) c.open.new.self) c.state.view_is (rw w.in-Err-Memory.field-0-is at w.in-Err-Memory.ensures)))

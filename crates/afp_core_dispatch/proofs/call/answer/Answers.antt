@@ -1,19 +1,16 @@
-use Rattle.std.proofs.Common.{◌∙◌, ap, is_some}
-use Rattle.afp_serial.specs.Answer.{refusal_reply}
-use Rattle.afp_core_state.specs.KeptWorld.{KeptWorld}
-use Rattle.session_table.specs.Sessions.{session_of}
-use Rattle.afp_core_dispatch.proofs.KeepingLemmas.{refused-runs, spelled-runs}
+use Rattle.afp_core_dispatch.proofs.KeepingLemmas.{told-fresh, told-kept, told-room}
+use Rattle.std.proofs.Common.{length}
 use Rattle.afp_core_dispatch.specs.lemma.Requests.{as_request}
 use Rattle.afp_core_dispatch.proofs.call.answer.Goals as goal
 
-pub returns-in-Ok : goal.returns-in-Ok
-returns-in-Ok g c =
-    spelled-runs c.args.state.now c.run.new.state c.args.session.0 (as_request c.args.request) c.in-Ok.call c.run.result c.is_some-has_user.result
-    (λ s at. c.is_some-has_user.ensures ∙ ap is_some (c.user.ensures s (ap (λ (k : KeptWorld). session_of k.world.sessions c.args.session.0) c.state.view_is ∙ at)))
-    c.in-Ok.ensures c.run.ensures
+pub put_told-answered-requires : goal.put_told-answered-requires
+put_told-answered-requires g c =
+    record { room = told-room c.args.state.now c.told_to.new.state c.args.session.0 (as_request c.args.request) (c.in_ok-told.told, c.in_ok-told.outcome) (length c.args.out.now) c.requires.there c.requires.fits c.in_ok-told.ensures c.requires.room }
 
-pub returns-in-Err-Refused : goal.returns-in-Err-Refused
-returns-in-Err-Refused g c =
-    refused-runs c.args.state.now c.keep.new.state c.args.session.0 (as_request c.args.request) c.in-Err-Refused.code c.refused-told.result c.is_some-has_user.result
-    (λ s at. c.is_some-has_user.ensures ∙ ap is_some (c.user.ensures s (ap (λ (k : KeptWorld). session_of k.world.sessions c.args.session.0) c.state.view_is ∙ at)))
-    (rw c.in-Err-Refused.field-0-is at c.in-Err-Refused.ensures) (c.refused-told.ensures ∙ ap refusal_reply c.in-Err-Refused.code-is) c.keep.ensures
+pub keep-requires : goal.keep-requires
+keep-requires g c =
+    told-fresh c.args.state.now c.told_to.new.state c.args.session.0 (as_request c.args.request) (c.in_ok-told.told, c.in_ok-told.outcome) c.requires.there c.requires.ready.sound c.requires.fresh c.in_ok-told.ensures
+
+pub returns-clause-runs : goal.returns-clause-runs
+returns-clause-runs g c =
+    told-kept c.args.state.now c.told_to.new.state c.keep.new.state c.args.session.0 (as_request c.args.request) c.in_ok-told.told _ c.in_ok-told.outcome c.in_ok-told.ensures c.put_told-answered.ensures.told c.keep.ensures

@@ -1,5 +1,5 @@
 use Rattle.std.proofs.Common.{◌≡◌, ◌∙◌, ap, of_z, rules, sym, to_z, w32, w64}
-use Rattle.afp_calls_grammar.specs.declared.call.Call.TheVariants.{DisconnectOldSession, Login, LoginExt, MapName, SetDirParms, SetForkParms, Write, WriteExt}
+use Rattle.afp_calls_grammar.specs.declared.call.Call.TheVariants.{AddIcon, DisconnectOldSession, Login, LoginExt, MapName, SetDirParms, SetForkParms, Write, WriteExt}
 use Rattle.afp_core_volumes.proofs.CallRows.{create_file-changes, delete-changes, move_and_rename-changes, rename-changes, set_file_dir_parms-changes, set_file_parms-changes, set_vol_parms-changes}
 use Rattle.afp_core_state.proofs.RowLemmas.{call-as, row-as}
 use Rattle.afp_core_dispatch.proofs.call.row.Goals as goal
@@ -100,4 +100,6 @@ pub change_alone-requires-in-SetVolParms : goal.change_alone-requires-in-SetVolP
 change_alone-requires-in-SetVolParms g c = let x = c.in-SetVolParms in set_vol_parms-changes c.args.call.now x.volume x.bits x.tail x.is
 
 pub returns-in-AddIcon : goal.returns-in-AddIcon
-returns-in-AddIcon g c = let x = c.in-AddIcon in call-as c.args.state.now _ c.args.session.0 _ _ _ x.is (c.add_icon.ensures x.size)
+returns-in-AddIcon g c =
+    let x = c.in-AddIcon in
+    call-as c.args.state.now _ c.args.session.0 _ _ _ (x.is ∙ ap (AddIcon x.dt x.creator x.kind x.icon_kind x.tag x.size) (sym c.as_slice-in-AddIcon.ensures)) (c.add_icon.ensures x.size)

@@ -22,7 +22,7 @@ returns g c =
     let k = c.args.state.now in
     let opens = sym (c.on-opens.ensures k.world (has-forks k.world c.state.inside.forks (ap (λ (x : KeptWorld). forks_in x.world) c.state.view_is))) in
     tells-runs c.args.state.now c.args.session.0 _ c.args.volume.0 _ _ (get_file_dir_parms-tells c.args.volume c.args.dir c.args.file_bits c.args.dir_bits c.args.path.now) c.user.result c.in-Some.index v _ _
-    answer.result c.new-block.result answer.new.out
+    answer.result c.in_ok-block.block answer.new.out
     c.told_of.result c.user.ensures c.in-Some.ensures c.kept_at.ensures refl
     (ap (λ (l : List Opened). get_file_dir_parms_reply c.args.file_bits c.args.dir_bits (get_file_dir_parms_values v c.user.result l c.args.file_bits c.args.dir_bits c.args.dir.0 c.args.path.now)) opens)
-    answer.ensures.refused c.new-block.ensures answer.ensures.ok c.told_of.ensures
+    answer.ensures.refused c.in_ok-block.ensures answer.ensures.ok c.told_of.ensures

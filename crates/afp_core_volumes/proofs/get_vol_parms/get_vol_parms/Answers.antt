@@ -14,5 +14,5 @@ pub returns : goal.returns
 returns g c =
     let answer = c.get_vol_parms-answer in
     let k = c.args.state.now in
-    tells-runs k c.args.session.0 _ c.args.volume.0 _ _ (get_vol_parms-tells c.args.volume c.args.bits) (user-in k c.args.session.0) c.in-Some.index c.kept_at.result.now.state _ _ answer.result c.new-block.result answer.new.out
-    c.told_of.result (is-user k c.args.session.0) c.in-Some.ensures c.kept_at.ensures refl refl answer.ensures.refused c.new-block.ensures answer.ensures.ok c.told_of.ensures
+    tells-runs k c.args.session.0 _ c.args.volume.0 _ _ (get_vol_parms-tells c.args.volume c.args.bits) (user-in k c.args.session.0) c.in-Some.index c.kept_at.result.now.state _ _ answer.result c.in_ok-block.block answer.new.out
+    c.told_of.result (is-user k c.args.session.0) c.in-Some.ensures c.kept_at.ensures refl refl answer.ensures.refused c.in_ok-block.ensures answer.ensures.ok c.told_of.ensures

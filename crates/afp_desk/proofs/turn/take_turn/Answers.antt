@@ -1,5 +1,6 @@
 use Rattle.std.proofs.Common.{ℕ, List, ◌∷◌, Some, None, Option, rules, sym, ap, ◌∙◌, subst}
 use Rattle.atomic_table.specs.Table.{rest}
+use Rattle.afp_serial.specs.Answered.{told_of}
 use Rattle.afp_serial.specs.declared.ask.Ask.{Ask}
 use Rattle.afp_core.specs.ServerState.{ServerState}
 use Rattle.afp_core.specs.Turn.{TakesTurn}
@@ -33,11 +34,11 @@ decide-requires-clause-turned g c =
     let x = c.exchange.ensures in
     let y = c.exchange-2.ensures in
     let core = same-core c.args.seat.now.me.0 d.ticket m took c.exchange.result c.in-Some.core x.2 c.in-Some.is in
-    let turn = subst (λ (z : ServerState × Ask). TakesTurn z.0 c.args.now c.args.link z.1 c.turn-told.result c.turn-told.new.self) (λ i. (core i, sym c.of-asked.ensures i)) c.turn-told.ensures in
+    let turn = subst (λ (z : ServerState × Ask). TakesTurn z.0 c.args.now c.args.link z.1 (told_of c.turn-answered.result c.turn-answered.new.out) c.turn-answered.new.self) (λ i. (core i, sym c.of-asked.ensures i)) c.turn-answered.ensures.turn in
     let view = ap (λ (z : Mine). z.0) y.3 ∙ ap (λ (z : Mine). z.0) x.3 ∙ took-view c.args.seat.now.me.0 d.ticket m took in (
-      c.turn-told.new.self,
-      ap (λ (z : Mine). z.1) y.3 ∙ ap (λ (z : Mine). (0, Some c.turn-told.new.self) ∷ rest z.1) x.3 ∙ ap (λ (l : List (ℕ × Option ServerState)). (0, Some c.turn-told.new.self) ∷ rest l) slot,
-      turns-as c.args.seat.now.me.0 d.ticket m took c.args.now c.args.link c.of-asked.result.value c.turn-told.result c.turn-told.new.self _ view turn,
+      c.turn-answered.new.self,
+      ap (λ (z : Mine). z.1) y.3 ∙ ap (λ (z : Mine). (0, Some c.turn-answered.new.self) ∷ rest z.1) x.3 ∙ ap (λ (l : List (ℕ × Option ServerState)). (0, Some c.turn-answered.new.self) ∷ rest l) slot,
+      turns-as c.args.seat.now.me.0 d.ticket m took c.args.now c.args.link c.of-asked.result.value (told_of c.turn-answered.result c.turn-answered.new.out) c.turn-answered.new.self _ view turn,
     )
 
 pub returns-clause-asked : goal.returns-clause-asked
@@ -46,13 +47,15 @@ returns-clause-asked g c =
     let m = c.wait_turn.new.seat.me in
     let took = taken-at c.args.seat.now.me d.ticket c.fetch_add-ticket.new.seat.me m d.after c.requires.rests.empty c.wait_turn.ensures.takes in
     let core = same-core c.args.seat.now.me.0 d.ticket m took c.exchange.result c.in-Some.core c.exchange.ensures.2 c.in-Some.is in
-    let turn = subst (λ (z : ServerState). TakesTurn z c.args.now c.args.link c.args.ask c.turn-told.result c.turn-told.new.self) core c.turn-told.ensures in
+    let turn = subst (λ (z : ServerState). TakesTurn z c.args.now c.args.link c.args.ask (told_of c.turn-answered.result c.turn-answered.new.out) c.turn-answered.new.self) core c.turn-answered.ensures.turn in
     let view = ap (λ (z : Mine). z.0) c.exchange-2.ensures.3 ∙ ap (λ (z : Mine). z.0) c.exchange.ensures.3 ∙ took-view c.args.seat.now.me.0 d.ticket m took in
-    let dec = subst (λ (a : Ask). DecidesAs c.turn-told.result (call_of c.args.now c.args.link a c.turn-told.result) c.exchange-2.new.seat.me c.decide.new.seat.me) c.of-asked.ensures c.decide.ensures.decides in
-    let all = ended c.args.seat.now.me.0 d.ticket m took c.args.now c.args.link c.args.ask c.turn-told.result c.exchange-2.new.seat.me c.decide.new.seat.me c.requires.rests.live c.requires.rests.settled c.requires.rests.sound view dec in
+    let told = told_of c.turn-answered.result c.turn-answered.new.out in
+    let decided = subst (λ (a : Ask). DecidesAs told (call_of c.args.now c.args.link a told) c.exchange-2.new.seat.me c.decide.new.seat.me) c.of-asked.ensures c.decide.ensures.decides in
+    let dec = subst (DecidesAs told (call_of c.args.now c.args.link c.args.ask told) c.exchange-2.new.seat.me) (sym c.wake_others.ensures.stays) decided in
+    let all = ended c.args.seat.now.me.0 d.ticket m took c.args.now c.args.link c.args.ask told c.exchange-2.new.seat.me c.wake_others.new.seat.me c.requires.rests.live c.requires.rests.settled c.requires.rests.sound view dec in
     record {
       asked = all.0;
-      tells = turn-tells-at c.args.seat.now.me.0 d.ticket m took c.args.now c.args.link c.args.ask c.turn-told.result c.turn-told.new.self c.requires.rests.sound turn;
+      tells = turn-tells-at c.args.seat.now.me.0 d.ticket m took c.args.now c.args.link c.args.ask (told_of c.turn-answered.result c.turn-answered.new.out) c.turn-answered.new.self c.requires.rests.sound turn;
       share = all.1;
       start = all.2;
     }
@@ -63,6 +66,8 @@ returns-clause-rests g c =
     let m = c.wait_turn.new.seat.me in
     let took = taken-at c.args.seat.now.me d.ticket c.fetch_add-ticket.new.seat.me m d.after c.requires.rests.empty c.wait_turn.ensures.takes in
     let view = ap (λ (z : Mine). z.0) c.exchange-2.ensures.3 ∙ ap (λ (z : Mine). z.0) c.exchange.ensures.3 ∙ took-view c.args.seat.now.me.0 d.ticket m took in
-    let dec = subst (λ (a : Ask). DecidesAs c.turn-told.result (call_of c.args.now c.args.link a c.turn-told.result) c.exchange-2.new.seat.me c.decide.new.seat.me) c.of-asked.ensures c.decide.ensures.decides in
-    let all = ended c.args.seat.now.me.0 d.ticket m took c.args.now c.args.link c.args.ask c.turn-told.result c.exchange-2.new.seat.me c.decide.new.seat.me c.requires.rests.live c.requires.rests.settled c.requires.rests.sound view dec in
+    let told = told_of c.turn-answered.result c.turn-answered.new.out in
+    let decided = subst (λ (a : Ask). DecidesAs told (call_of c.args.now c.args.link a told) c.exchange-2.new.seat.me c.decide.new.seat.me) c.of-asked.ensures c.decide.ensures.decides in
+    let dec = subst (DecidesAs told (call_of c.args.now c.args.link c.args.ask told) c.exchange-2.new.seat.me) (sym c.wake_others.ensures.stays) decided in
+    let all = ended c.args.seat.now.me.0 d.ticket m took c.args.now c.args.link c.args.ask told c.exchange-2.new.seat.me c.wake_others.new.seat.me c.requires.rests.live c.requires.rests.settled c.requires.rests.sound view dec in
     all.3

@@ -1,5 +1,6 @@
 use Rattle.std.proofs.Common.{◌≡◌, ◌∙◌, ◌∷◌, ◌++◌, [], ap, sym, refl, subst, true, List, length, append-nil}
 use Rattle.afp_serial.specs.Answer.{answer}
+use Rattle.afp_serial.specs.Answered.{told_of}
 use Rattle.afp_serial.specs.History.{entry, is_lawful, stand}
 use Rattle.afp_serial.specs.Sound.{IsSound}
 use Rattle.afp_serial.specs.Shown.{fits_frame, is_answer_to}
@@ -22,16 +23,16 @@ invariant_of-self-in-Ok-step g c =
     let kept = ap (λ (a : Ask). entry c.args.now c.args.link a c.in-Ok-step.outcome) c.in-Ok.ensures in
     let items = c.push_reserved.ensures.items ∙ (λ i. c.reserve.ensures.items i ++ kept i ∷ []) in
     let stands = c.args.self.now.stands in
-    let lawful = subst (λ (l : List Entry). is_lawful begin.world l ≡ true) (sym items) (turn-lawful begin.world h c.args.self.now.core c.step.new.self e c.in-Ok-step.told stands c.in-Ok-step.ensures c.args.self.now.lawful) in
+    let lawful = subst (λ (l : List Entry). is_lawful begin.world l ≡ true) (sym items) (turn-lawful begin.world h c.args.self.now.core c.step.new.self e (told_of c.in-Ok-step.answered c.step.new.out) stands c.in-Ok-step.ensures.step c.args.self.now.lawful) in
     record {
       sound = c.args.self.now.sound;
       sound_at = stand-sound begin.world c.push_reserved.new.self.items c.args.self.now.sound lawful;
       lawful = lawful;
-      stands = turn-stands begin.world h c.args.self.now.core c.step.new.self e c.in-Ok-step.told stands c.in-Ok-step.ensures ∙ ap (stand begin.world) (sym items);
+      stands = turn-stands begin.world h c.args.self.now.core c.step.new.self e (told_of c.in-Ok-step.answered c.step.new.out) stands c.in-Ok-step.ensures.step ∙ ap (stand begin.world) (sym items);
       counted = subst (λ (l : List Entry). IsCounted begin l c.step.new.self) (sym items)
-          (turn-counted begin c.args.self.now.core c.step.new.self h e c.in-Ok-step.told stands c.in-Ok-step.ensures c.args.self.now.counted);
-      faultless = subst (λ (l : List Entry). MeetsNoFaults begin l) (sym items) (turn-faultless begin c.args.self.now.core c.step.new.self h e c.in-Ok-step.told c.in-Ok-step.ensures c.args.self.now.keepers c.args.self.now.faultless);
-      keepers = turn-kept begin c.args.self.now.core c.step.new.self e c.in-Ok-step.told c.in-Ok-step.ensures c.args.self.now.keepers;
+          (turn-counted begin c.args.self.now.core c.step.new.self h e (told_of c.in-Ok-step.answered c.step.new.out) stands c.in-Ok-step.ensures.step c.args.self.now.counted);
+      faultless = subst (λ (l : List Entry). MeetsNoFaults begin l) (sym items) (turn-faultless begin c.args.self.now.core c.step.new.self h e (told_of c.in-Ok-step.answered c.step.new.out) c.in-Ok-step.ensures.step c.args.self.now.keepers c.args.self.now.faultless);
+      keepers = turn-kept begin c.args.self.now.core c.step.new.self e (told_of c.in-Ok-step.answered c.step.new.out) c.in-Ok-step.ensures.step c.args.self.now.keepers;
     }
 
 pub returns-in-Ok-step-clause-asked : goal.returns-in-Ok-step-clause-asked
@@ -41,22 +42,22 @@ returns-in-Ok-step-clause-asked g c =
     let e : Entry = entry c.args.now c.args.link c.args.ask c.in-Ok-step.outcome in
     let kept = ap (λ (a : Ask). entry c.args.now c.args.link a c.in-Ok-step.outcome) c.in-Ok.ensures in
     let items = c.push_reserved.ensures.items ∙ (λ i. c.reserve.ensures.items i ++ kept i ∷ []) in
-    let t = c.in-Ok-step.ensures in
+    let t = c.in-Ok-step.ensures.step in
     let none : h ≡ h ++ [] = sym (append-nil h) in
-    asked-adds _ _ c.args.now c.args.link c.args.ask c.in-Ok-step.told (answer-told c.args.self.now.core.world e c.in-Ok-step.told t.serial) record {
+    asked-adds _ _ c.args.now c.args.link c.args.ask (told_of c.in-Ok-step.answered c.step.new.out) (answer-told c.args.self.now.core.world e (told_of c.in-Ok-step.answered c.step.new.out) t.serial) record {
       between = [];
       outcome = c.in-Ok-step.outcome;
       start = refl;
       history = items ∙ ap (λ (l : List Entry). l ++ e ∷ []) none;
       mine = ap (λ (l : List Entry). upto (length l)) items ∙ upto-longer h e ∙ ap (λ (l : List Entry). upto (length h) ++ length l ∷ []) none;
-      serial = turn-tells begin h c.args.self.now.core c.step.new.self e c.in-Ok-step.told c.args.self.now.stands t ∙ ap (λ (l : List Entry). answer (stand begin l) e) none;
-      faults = turn-faults c.args.self.now.core c.step.new.self e c.in-Ok-step.told t;
+      serial = turn-tells begin h c.args.self.now.core c.step.new.self e (told_of c.in-Ok-step.answered c.step.new.out) c.args.self.now.stands t ∙ ap (λ (l : List Entry). answer (stand begin l) e) none;
+      faults = turn-faults c.args.self.now.core c.step.new.self e (told_of c.in-Ok-step.answered c.step.new.out) t;
     }
 
 pub returns-in-Ok-step-clause-answers : goal.returns-in-Ok-step-clause-answers
 returns-in-Ok-step-clause-answers g c =
     let e : Entry = entry c.args.now c.args.link c.args.ask c.in-Ok-step.outcome in
-    ap (is_answer_to c.args.ask) c.in-Ok-step.ensures.serial ∙ answer-kind c.args.self.now.core.world e
+    ap (is_answer_to c.args.ask) c.in-Ok-step.ensures.step.serial ∙ answer-kind c.args.self.now.core.world e
 
 pub returns-in-Ok-step-clause-size : goal.returns-in-Ok-step-clause-size
 returns-in-Ok-step-clause-size g c =
@@ -64,4 +65,4 @@ returns-in-Ok-step-clause-size g c =
     let h = c.args.self.now.entries.items in
     let e : Entry = entry c.args.now c.args.link c.args.ask c.in-Ok-step.outcome in
     let sound = subst IsSound (sym c.args.self.now.stands) (stood-sound begin h c.args.self.now.sound c.args.self.now.lawful) in
-    ap fits_frame c.in-Ok-step.ensures.serial ∙ answer-fits c.args.self.now.core.world e sound c.in-Ok-step.ensures.legal
+    ap fits_frame c.in-Ok-step.ensures.step.serial ∙ answer-fits c.args.self.now.core.world e sound c.in-Ok-step.ensures.step.legal
