@@ -35,7 +35,7 @@ fn tail_of(alloc: Global, name: &[u8], password: [u8; 8]) -> Result<Bytes, OutOf
 
 impl Login {
     /// The FPLogin request.
-    pub(crate) fn call(&self, alloc: Global) -> Result<Call, OutOfMemory>
+    pub(crate) fn call(&self, alloc: Global) -> Result<Call<'static>, OutOfMemory>
         requires { FitsLogin self.now }
         ensures call { IfOk result (λ call. call ≡ login_call self.now) }
         ensures fits { IfOk result (λ call. length (canonical_call call) ≤ payload_limit) }

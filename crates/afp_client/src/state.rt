@@ -152,7 +152,7 @@ impl ClientMachine {
     }
 
     /// The last call of the opening.
-    fn session_call(&self) -> Result<Call, OutOfMemory>
+    fn session_call(&self) -> Result<Call<'static>, OutOfMemory>
         ensures call { IfOk result (λ call. call ≡ session_call self.now.token) }
         ensures fits { IfOk result (λ call. length (canonical_call call) ≤ payload_limit) }
         ensures spellable { IfOk result (λ call. IsSpellable call) }

@@ -22,7 +22,7 @@ const FIRST_ID: u16 = 4;
 #[derive(Drop)]
 pub struct DrillStep {
     pub at: Moment,
-    pub call: Call,
+    pub call: Call<'static>,
     pub breaks: Break,
 }
 

@@ -2,6 +2,7 @@
 ghost use Rattle.std.specs.Prelude.{◌≡◌, ◌≢◌, ◌+◌, ◌^◌, ◌<◌, ◌≤◌, List, ℕ, false, None, Some, IfOk, OnOk, length, drop};
 ghost use Rattle.afp_serial.specs.StatusBlock.{status_block};
 ghost use Rattle.afp_serial.specs.declared.ask.Told.{Told};
+ghost use Rattle.afp_serial.specs.Answered.{told_of};
 ghost use Rattle.capture_log_server.specs.lemma.Moves.{wire_or};
 ghost use Rattle.capture_log_server.specs.CaptureState.{after_quiet, after_loss};
 ghost use Rattle.afp_server.specs.declared.stage.Stage.{Stage};
@@ -12,7 +13,7 @@ ghost use Rattle.capture_log_server.specs.lemma.States.{FeedsWire, GoesOn, is_en
 use crate::difference::{Difference, first_difference};
 use crate::teller::SoleTeller;
 use afp_base::{Bytes, LinkNumber, Moment, OutOfMemory};
-use afp_serial::{Ask, House, Teller, Told};
+use afp_serial::{Answered, Ask, House, Teller};
 use afp_server::{Tally, Wire, WireEnd};
 use std::alloc::Global;
 use std::marker::Model;
@@ -188,18 +189,21 @@ impl Connection {
     }
 
     /// What a Pulse was told.
-    fn pulsed(&mut self, told: Told) -> Result<(), OutOfMemory>
-        ensures memory { OnOk result (told ≢ Told.Memory) }
-        ensures is { OnOk result ((block : List ℕ) (s : Peer) → IsConnection block self.old s → IsConnection block self.new (after_quiet told s)) }
+    fn pulsed(&mut self, answered: Answered) -> Result<(), OutOfMemory>
+        ensures memory { (out : List ℕ) → OnOk result (told_of answered out ≢ Told.Memory) }
+        ensures is { (out : List ℕ) → OnOk result ((block : List ℕ) (s : Peer) → IsConnection block self.old s → IsConnection block self.new (after_quiet (told_of answered out) s)) }
     {
-        match told {
-            Told::Memory => Err(OutOfMemory),
-            Told::Displaced => {
+        match answered {
+            Answered::Memory => Err(OutOfMemory),
+            Answered::Displaced => {
                 self.over = true;
                 self.drop_wire();
                 Ok(())
             }
-            Told::Opened { .. } | Told::Reply { .. } | Told::Live { .. } | Told::Done => Ok(()),
+            Answered::Opened { .. }
+            | Answered::Reply { .. }
+            | Answered::Live { .. }
+            | Answered::Done => Ok(()),
         }
     }
 
@@ -210,8 +214,8 @@ impl Connection {
     {
         match self.link() {
             Some(link) => {
-                let told = teller.ask(now, link, Ask::Pulse);
-                self.pulsed(told)
+                let answered = teller.ask(now, link, Ask::Pulse, &mut []);
+                self.pulsed(answered)
             }
             None => Ok(()),
         }
@@ -232,8 +236,8 @@ impl Connection {
     {
         match self.link() {
             Some(link) => {
-                let told = teller.ask(now, link, Ask::Lost);
-                is_told(told)?;
+                let answered = teller.ask(now, link, Ask::Lost, &mut []);
+                is_told(answered)?;
                 self.end();
                 Ok(())
             }
@@ -287,15 +291,15 @@ impl Connection {
 }
 
 /// An ask was answered.
-fn is_told(told: Told) -> Result<(), OutOfMemory>
-    ensures { OnOk result (told ≢ Told.Memory) }
+fn is_told(answered: Answered) -> Result<(), OutOfMemory>
+    ensures { OnOk result ((out : List ℕ) → told_of answered out ≢ Told.Memory) }
 {
-    match told {
-        Told::Memory => Err(OutOfMemory),
-        Told::Opened { .. }
-        | Told::Reply { .. }
-        | Told::Live { .. }
-        | Told::Done
-        | Told::Displaced => Ok(()),
+    match answered {
+        Answered::Memory => Err(OutOfMemory),
+        Answered::Opened { .. }
+        | Answered::Reply { .. }
+        | Answered::Live { .. }
+        | Answered::Done
+        | Answered::Displaced => Ok(()),
     }
 }

@@ -6,7 +6,9 @@ use Rattle.afp_serial.specs.declared.ask.Entry.{Entry}
 use Rattle.afp_serial.specs.declared.ask.Outcome.{Outcome}
 use Rattle.afp_serial.specs.declared.ask.Outcome.TheVariants as outcome
 use Rattle.afp_serial.specs.declared.ask.Told.{Told}
-use Rattle.afp_serial.specs.declared.ask.Told.TheVariants.{Opened, Reply, Live, Done, Displaced, Memory}
+use Rattle.afp_serial.specs.Answered.{told_of}
+use Rattle.afp_serial.specs.declared.answered.Answered.{Answered}
+use Rattle.afp_serial.specs.declared.answered.Answered.TheVariants as answered
 use Rattle.afp_serial.specs.History.{entry, faults_in}
 use Rattle.afp_serial.proofs.Grows.{faults-append}
 use Rattle.afp_core.specs.ServerState.{ServerState}
@@ -15,13 +17,13 @@ use Rattle.afp_core.specs.Turn.{BecomesEntry, TakesTurn, Turned}
 use Rattle.afp_core.proofs.TurnLemmas.{turn-faultless}
 
 -- a turn that was not told Memory is an entry
-pub becomes : (c d : ServerState) (now : ℕ) (link : LinkNumber) (ask : Ask) (told : Told) → TakesTurn c now link ask told d → (told ≡ Memory → ⊥) → BecomesEntry c now link ask told d
-becomes c d now link ask (Opened l) t other = t
-becomes c d now link ask (Reply code block ends) t other = t
-becomes c d now link ask (Live drain) t other = t
-becomes c d now link ask Done t other = t
-becomes c d now link ask Displaced t other = t
-becomes c d now link ask Memory t other = absurd (other refl)
+pub becomes : (c d : ServerState) (now : ℕ) (link : LinkNumber) (ask : Ask) (a : Answered) (out : List ℕ) → TakesTurn c now link ask (told_of a out) d → (a ≡ answered.Memory → ⊥) → BecomesEntry c now link ask (told_of a out) d
+becomes c d now link ask (answered.Opened l) out t other = t
+becomes c d now link ask (answered.Reply code size ends) out t other = t
+becomes c d now link ask (answered.Live drain) out t other = t
+becomes c d now link ask answered.Done out t other = t
+becomes c d now link ask answered.Displaced out t other = t
+becomes c d now link ask answered.Memory out t other = absurd (other refl)
 
 -- over sure keepers its outcome is Done
 done-by : (start c d : ServerState) (h : List Entry) (now : ℕ) (link : LinkNumber) (ask : Ask) (told : Told) (o : Outcome) → AreSure start → SureKept start c → faults_in h ≡ 0

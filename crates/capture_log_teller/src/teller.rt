@@ -7,7 +7,7 @@ ghost use Rattle.afp_core.specs.Sureness.{AreSure, SureKept};
 use crate::turning::turn;
 use afp_base::{LinkNumber, Moment, VolumeId};
 use afp_core::Core;
-use afp_serial::{Ask, Entry, Outcome, Teller, Told};
+use afp_serial::{Answered, Ask, Entry, Outcome, Teller};
 use capture_log_server::SoleTeller;
 use ghost_log::Log;
 use record_keeper::Keeper;
@@ -70,9 +70,9 @@ impl<K: Keeper> Teller for SureTeller<K> {
       within = upto-within (length t.log.items);
     } };
 
-    fn ask(&mut self, now: Moment, link: LinkNumber, ask: Ask) -> Told {
+    fn ask(&mut self, now: Moment, link: LinkNumber, ask: Ask, out: &mut [u8]) -> Answered {
         let Some(count) = self.count.checked_add(1) else {
-            return Told::Memory;
+            return Answered::Memory;
         };
         let entry = Entry {
             link,
@@ -81,12 +81,12 @@ impl<K: Keeper> Teller for SureTeller<K> {
             outcome: Outcome::Done,
         };
         let log = self.log.and(&entry);
-        match turn(&mut self.core, now, link, entry.ask) {
-            None => Told::Memory,
-            Some(told) => {
+        match turn(&mut self.core, now, link, entry.ask, out) {
+            None => Answered::Memory,
+            Some(answered) => {
                 self.log = log;
                 self.count = count;
-                told
+                answered
             }
         }
     }

@@ -1,22 +1,28 @@
 //! A turn of the core.
+ghost use Rattle.std.specs.Prelude.{◌≡◌, ◌≤◌, length, option_map, true};
+ghost use Rattle.afp_base.specs.Limits.{payload_limit};
+ghost use Rattle.afp_serial.specs.Answered.{tells_bytes, told_of};
 ghost use Rattle.capture_log_teller.specs.Turning.{Turns};
 
 use afp_base::{LinkNumber, Moment};
 use afp_core::Core;
-use afp_serial::{Ask, Told};
+use afp_serial::{Answered, Ask};
 use record_keeper::Keeper;
 
-/// Asks the core. `None`: there was no memory, and nothing has changed.
+/// Asks the core; the block of a reply is put at the front of `out`. `None`: there was no memory, and nothing has changed but there.
 pub(crate) fn turn<K: Keeper>(
     core: &mut Core<K>,
     now: Moment,
     link: LinkNumber,
     ask: Ask,
-) -> Option<Told>
-    ensures { Turns core.old now link ask result core.new }
+    out: &mut [u8],
+) -> Option<Answered>
+    requires { tells_bytes ask ≡ true → payload_limit ≤ length out.old }
+    ensures turns { Turns core.old now link ask (option_map (λ answered. told_of answered out.new) result) core.new }
+    ensures length { length out.new ≡ length out.old }
 {
-    match core.turn(now, link, ask) {
-        Told::Memory => None,
-        told => Some(told),
+    match core.turn(now, link, ask, out) {
+        Answered::Memory => None,
+        answered => Some(answered),
     }
 }

@@ -1,2 +1,3 @@
 -- What the code goes by; no public contract cites it.
 pub mod Headers
+pub mod Letters

@@ -1,11 +1,13 @@
 //! The calls of a made capture, one function for each. The one error is want of memory.
-ghost use Rattle.std.specs.Prelude.{◌≡◌, ◌≤◌, length, IfOk};
+ghost use Rattle.std.specs.Prelude.{◌≡◌, ◌≤◌, ◌+◌, ◌%◌, [], ◌∷◌, length, IfOk};
 ghost use Rattle.afp_names.specs.Path.{canonical_path};
 ghost use Rattle.afp_calls_grammar.specs.Call.{IsSpellable};
 ghost use Rattle.capture_made_requests.specs.Requests.{path, name, reference, create_file, delete, rename, open_fork, close_fork, lock, write, enumerate, call_of, login, open_volume};
+ghost use Rattle.capture_made_requests.specs.lemma.Letters.{letter};
 
 use afp_base::{Bytes, ForkRef, NodeId, OutOfMemory, VolumeId};
 use afp_calls::Call;
+use afp_calls_grammar::Piece;
 use afp_names::{Path, UTF8_NAMES};
 use std::alloc::Global;
 
@@ -42,7 +44,7 @@ fn reference_of(number: u64) -> ForkRef
 }
 
 /// FPCreateFile, which leaves a file that is there.
-fn create_file(alloc: Global, a: u64) -> Result<Call, OutOfMemory>
+fn create_file(alloc: Global, a: u64) -> Result<Call<'static>, OutOfMemory>
     ensures call { IfOk result (λ call. call ≡ create_file a) }
     ensures spellable { IfOk result (λ call. IsSpellable call) }
 {
@@ -55,7 +57,7 @@ fn create_file(alloc: Global, a: u64) -> Result<Call, OutOfMemory>
 }
 
 /// FPDelete.
-fn delete(alloc: Global, a: u64) -> Result<Call, OutOfMemory>
+fn delete(alloc: Global, a: u64) -> Result<Call<'static>, OutOfMemory>
     ensures call { IfOk result (λ call. call ≡ delete a) }
     ensures spellable { IfOk result (λ call. IsSpellable call) }
 {
@@ -67,7 +69,7 @@ fn delete(alloc: Global, a: u64) -> Result<Call, OutOfMemory>
 }
 
 /// FPRename.
-fn rename(alloc: Global, a: u64, b: u64) -> Result<Call, OutOfMemory>
+fn rename(alloc: Global, a: u64, b: u64) -> Result<Call<'static>, OutOfMemory>
     ensures call { IfOk result (λ call. call ≡ rename a b) }
     ensures spellable { IfOk result (λ call. IsSpellable call) }
 {
@@ -80,7 +82,7 @@ fn rename(alloc: Global, a: u64, b: u64) -> Result<Call, OutOfMemory>
 }
 
 /// FPOpenFork of a data fork.
-fn open_fork(alloc: Global, a: u64, b: u64) -> Result<Call, OutOfMemory>
+fn open_fork(alloc: Global, a: u64, b: u64) -> Result<Call<'static>, OutOfMemory>
     ensures call { IfOk result (λ call. call ≡ open_fork a b) }
     ensures spellable { IfOk result (λ call. IsSpellable call) }
 {
@@ -95,7 +97,7 @@ fn open_fork(alloc: Global, a: u64, b: u64) -> Result<Call, OutOfMemory>
 }
 
 /// FPCloseFork.
-fn close_fork(a: u64) -> Call
+fn close_fork(a: u64) -> Call<'static>
     ensures call { result ≡ close_fork a }
     ensures spellable { IsSpellable result }
 {
@@ -105,7 +107,7 @@ fn close_fork(a: u64) -> Call
 }
 
 /// FPByteRangeLock of four bytes.
-fn lock(a: u64, b: u64) -> Call
+fn lock(a: u64, b: u64) -> Call<'static>
     ensures call { result ≡ lock a b }
     ensures spellable { IsSpellable result }
 {
@@ -117,23 +119,53 @@ fn lock(a: u64, b: u64) -> Call
     }
 }
 
-/// FPWrite of one byte, behind the fork's end.
-fn write(alloc: Global, a: u64, b: u64) -> Result<Call, OutOfMemory>
-    ensures call { IfOk result (λ call. call ≡ write a b) }
-    ensures spellable { IfOk result (λ call. IsSpellable call) }
+/// One of the eight bytes that are written, by its place.
+fn letter_at(place: u64) -> &'static [u8]
+    ensures { result.now ≡ letter place }
 {
-    let piece = [0x61 + (b % 8) as u8];
-    Ok(Call::Write {
+    if place == 0 {
+        b"a"
+    } else if place == 1 {
+        b"b"
+    } else if place == 2 {
+        b"c"
+    } else if place == 3 {
+        b"d"
+    } else if place == 4 {
+        b"e"
+    } else if place == 5 {
+        b"f"
+    } else if place == 6 {
+        b"g"
+    } else {
+        b"h"
+    }
+}
+
+/// The byte that is written, by the number that was drawn for it.
+#[tactic(auto, using(crate::proofs::LetterLemmas::drawn_letter))]
+fn drawn_letter(number: u64) -> &'static [u8]
+    ensures { result.now ≡ (0x61 + number % 8) ∷ [] }
+{
+    letter_at(number % 8)
+}
+
+/// FPWrite of one byte, behind the fork's end.
+fn write(a: u64, b: u64) -> Call<'static>
+    ensures call { result ≡ write a b }
+    ensures spellable { IsSpellable result }
+{
+    Call::Write {
         flag: 0x80,
         reference: reference_of(a),
         offset: 0,
         count: 1,
-        piece: Bytes::of(alloc, &piece)?,
-    })
+        piece: Piece::new(drawn_letter(b)),
+    }
 }
 
 /// FPEnumerateExt2 of the root.
-fn enumerate(alloc: Global) -> Result<Call, OutOfMemory>
+fn enumerate(alloc: Global) -> Result<Call<'static>, OutOfMemory>
     ensures call { IfOk result (λ call. call ≡ enumerate) }
     ensures spellable { IfOk result (λ call. IsSpellable call) }
 {
@@ -150,7 +182,7 @@ fn enumerate(alloc: Global) -> Result<Call, OutOfMemory>
 }
 
 /// The call of a step, by the numbers that were drawn for it. The one error is want of memory.
-pub fn call_of(alloc: Global, o: u64, a: u64, b: u64) -> Result<Call, OutOfMemory>
+pub fn call_of(alloc: Global, o: u64, a: u64, b: u64) -> Result<Call<'static>, OutOfMemory>
     ensures call { IfOk result (λ call. call ≡ call_of o a b) }
     ensures spellable { IfOk result (λ call. IsSpellable call) }
 {
@@ -167,14 +199,14 @@ pub fn call_of(alloc: Global, o: u64, a: u64, b: u64) -> Result<Call, OutOfMemor
     } else if o == 5 {
         Ok(lock(a, b))
     } else if o == 6 {
-        write(alloc, a, b)
+        Ok(write(a, b))
     } else {
         enumerate(alloc)
     }
 }
 
 /// FPLogin without a user.
-pub(crate) fn login(alloc: Global) -> Result<Call, OutOfMemory>
+pub(crate) fn login(alloc: Global) -> Result<Call<'static>, OutOfMemory>
     ensures call { IfOk result (λ call. call ≡ login) }
     ensures spellable { IfOk result (λ call. IsSpellable call) }
 {
@@ -186,7 +218,7 @@ pub(crate) fn login(alloc: Global) -> Result<Call, OutOfMemory>
 }
 
 /// FPOpenVol, which asks the volume's id. The one error is want of memory.
-pub fn open_volume_call(alloc: Global) -> Result<Call, OutOfMemory>
+pub fn open_volume_call(alloc: Global) -> Result<Call<'static>, OutOfMemory>
     ensures call { IfOk result (λ call. call ≡ open_volume) }
     ensures spellable { IfOk result (λ call. IsSpellable call) }
 {

@@ -5,9 +5,9 @@ use afp_serial::Ask;
 
 /// What happens. Links are numbered from 1, in the order in which the client begins them; bytes are counted.
 #[derive(Drop)]
-pub enum Happening {
+pub enum Happening<'a> {
     /// The client asks this call.
-    Asks(Call),
+    Asks(Call<'a>),
     /// At most so many bytes under way to the server end of a link reach it.
     ToServer {
         link: u32,

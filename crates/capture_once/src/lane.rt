@@ -1,5 +1,6 @@
 //! A link: its server end, and the bytes under way on it.
-ghost use Rattle.std.specs.Prelude.{◌≡◌, ◌≢◌, ◌+◌, ◌<◌, ◌≤◌, false, None, Some, length, slice_get, OnOk, IfOk};
+ghost use Rattle.std.specs.Prelude.{◌≡◌, ◌≢◌, ◌+◌, ◌<◌, ◌≤◌, false, List, ℕ, None, Some, length, slice_get, OnOk, IfOk};
+ghost use Rattle.afp_serial.specs.Answered.{told_of};
 ghost use Rattle.afp_server.specs.Wire.{PartsBy};
 ghost use Rattle.afp_server.specs.declared.stage.Stage.{Stage};
 ghost use Rattle.once_across_breaks_run.specs.Doings.{is_displaced};
@@ -8,7 +9,7 @@ ghost use Rattle.capture_once.specs.lemma.Lanes.{ChangesAt, FedWith, FeedsLane, 
 
 use crate::flight::{moved, take_away};
 use afp_base::{Bytes, LinkNumber, Moment, OutOfMemory};
-use afp_serial::{Ask, Teller, Told};
+use afp_serial::{Answered, Ask, Teller};
 use afp_server::{Wire, WireEnd};
 use std::alloc::Global;
 use volume_spec::bytes_in_range;
@@ -37,16 +38,16 @@ fn still(wire: Wire, end: Option<WireEnd>) -> Result<Option<Wire>, OutOfMemory>
 }
 
 /// Whether no session has the link any more.
-fn is_displaced(told: Told) -> bool
-    ensures { result ≡ is_displaced told }
+fn is_displaced(answered: Answered) -> bool
+    ensures { (out : List ℕ) → result ≡ is_displaced (told_of answered out) }
 {
-    match told {
-        Told::Displaced => true,
-        Told::Opened { .. } => false,
-        Told::Reply { .. } => false,
-        Told::Live { .. } => false,
-        Told::Done => false,
-        Told::Memory => false,
+    match answered {
+        Answered::Displaced => true,
+        Answered::Opened { .. } => false,
+        Answered::Reply { .. } => false,
+        Answered::Live { .. } => false,
+        Answered::Done => false,
+        Answered::Memory => false,
     }
 }
 
@@ -126,8 +127,8 @@ impl Lane {
         match self.link() {
             None => {}
             Some(link) => {
-                let told = teller.ask(now, link, Ask::Pulse);
-                self.end_where(is_displaced(told))
+                let answered = teller.ask(now, link, Ask::Pulse, &mut []);
+                self.end_where(is_displaced(answered))
             }
         }
     }

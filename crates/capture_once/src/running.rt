@@ -8,12 +8,15 @@ ghost use Rattle.capture_once.specs.lemma.Running.{BeginsLane, Comes, IsPlace, I
 use crate::client_end::{ClientEnd, ask_at, bring_at};
 use crate::happening::Happening;
 use crate::lane::{Lane, feed_at, idle_at, lose_at};
-use afp_base::{Bytes, LinkNumber, Moment, OutOfMemory};
+use afp_base::{Bytes, LinkNumber, MAX_PAYLOAD, Moment, OutOfMemory};
 use afp_calls_grammar::Call;
 use afp_client::{ClientCore, Login};
 use afp_serial::{Ask, House, Teller};
 use afp_server::Wire;
 use std::alloc::Global;
+
+/// The bytes of the longest block that is told.
+const MOST_PAYLOAD: usize = MAX_PAYLOAD as usize;
 
 /// A client, its links in the order in which it began them, and the teller behind their server ends.
 #[derive(Drop)]
@@ -159,13 +162,14 @@ impl<T: Teller + Drop> Running<T> {
         Ok(())
     }
 
-    /// Others ask.
+    /// Others ask. What they are told is let go.
     fn others(&mut self, now: Moment, link: LinkNumber, ask: &Ask) -> Result<(), OutOfMemory>
         ensures { OnOk result ((block : List ℕ) (t : Things) → Stands self.old.end self.old.lanes.items (T.shown self.old.teller) t
             → Comes block (Happening.Others now link ask.now) t self.new.end self.new.lanes.items (T.shown self.new.teller)) }
     {
         let asked = ask.copy()?;
-        let _told = self.teller.ask(now, link, asked);
+        let mut room = vec![in self.alloc; 0u8; MOST_PAYLOAD]?;
+        self.teller.ask(now, link, asked, room.as_mut_slice());
         Ok(())
     }
 

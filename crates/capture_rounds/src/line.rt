@@ -7,10 +7,11 @@ ghost use Rattle.dsi_frame.specs.Frame.{Frame, IsGood, canonical_frame};
 ghost use Rattle.capture_rounds.specs.Lines.{Loses, ServesLine};
 ghost use Rattle.afp_server.specs.Wire.{open_link};
 ghost use Rattle.afp_serial.specs.declared.ask.Told.{Told};
+ghost use Rattle.afp_serial.specs.Answered.{told_of};
 ghost use Rattle.capture_rounds.specs.lemma.Whole.{FeedsWhole, is_end};
 
 use afp_base::{Bytes, LinkNumber, Moment, OutOfMemory};
-use afp_serial::{Ask, House, Teller, Told};
+use afp_serial::{Answered, Ask, House, Teller};
 use afp_server::{Wire, WireEnd};
 use capture_log_server::SoleTeller;
 use once_across_breaks_server::laws::pieces_that_are_fed_do_as_the_law_says;
@@ -73,16 +74,16 @@ fn feed_whole<T: SoleTeller>(
 }
 
 /// An ask was answered.
-fn is_told(told: Told) -> Result<(), OutOfMemory>
-    ensures { OnOk result (told ≢ Told.Memory) }
+fn is_told(answered: Answered) -> Result<(), OutOfMemory>
+    ensures { (out : List ℕ) → OnOk result (told_of answered out ≢ Told.Memory) }
 {
-    match told {
-        Told::Memory => Err(OutOfMemory),
-        Told::Opened { .. }
-        | Told::Reply { .. }
-        | Told::Live { .. }
-        | Told::Done
-        | Told::Displaced => Ok(()),
+    match answered {
+        Answered::Memory => Err(OutOfMemory),
+        Answered::Opened { .. }
+        | Answered::Reply { .. }
+        | Answered::Live { .. }
+        | Answered::Done
+        | Answered::Displaced => Ok(()),
     }
 }
 
@@ -131,7 +132,7 @@ impl Line {
     {
         match self.wire.link() {
             None => Ok(()),
-            Some(link) => is_told(teller.ask(now, link, Ask::Lost)),
+            Some(link) => is_told(teller.ask(now, link, Ask::Lost, &mut [])),
         }
     }
 }

@@ -11,7 +11,7 @@ use std::alloc::Global;
 
 /// FPOpenDT.
 #[tactic(auto, using(crate::proofs::AskableLemmas::askable_open_dt))]
-pub fn open_desk(volume: VolumeId) -> Call
+pub fn open_desk(volume: VolumeId) -> Call<'static>
     ensures call { result ≡ open_desk volume }
     ensures askable { IsAskable result }
 {
@@ -20,7 +20,12 @@ pub fn open_desk(volume: VolumeId) -> Call
 
 /// FPAddComment.
 #[tactic(auto, using(crate::proofs::AskableLemmas::askable_add_comment))]
-pub fn add_comment(alloc: Global, dt: u16, path: &[u8], text: &[u8]) -> Result<Call, OutOfMemory>
+pub fn add_comment(
+    alloc: Global,
+    dt: u16,
+    path: &[u8],
+    text: &[u8],
+) -> Result<Call<'static>, OutOfMemory>
     requires path { IsPlace path.now }
     requires text { length text.now < 256 }
     ensures call { IfOk result (λ call. call ≡ add_comment dt path.now text.now) }
@@ -36,7 +41,7 @@ pub fn add_comment(alloc: Global, dt: u16, path: &[u8], text: &[u8]) -> Result<C
 
 /// FPGetComment.
 #[tactic(auto, using(crate::proofs::AskableLemmas::askable_get_comment))]
-pub fn get_comment(alloc: Global, dt: u16, path: &[u8]) -> Result<Call, OutOfMemory>
+pub fn get_comment(alloc: Global, dt: u16, path: &[u8]) -> Result<Call<'static>, OutOfMemory>
     requires { IsPlace path.now }
     ensures call { IfOk result (λ call. call ≡ get_comment dt path.now) }
     ensures askable { IfOk result (λ call. IsAskable call) }

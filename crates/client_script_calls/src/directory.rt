@@ -11,7 +11,11 @@ use std::alloc::Global;
 
 /// FPCreateDir.
 #[tactic(auto, using(crate::proofs::AskableLemmas::askable_create_dir))]
-pub fn create_dir(alloc: Global, volume: VolumeId, path: &[u8]) -> Result<Call, OutOfMemory>
+pub fn create_dir(
+    alloc: Global,
+    volume: VolumeId,
+    path: &[u8],
+) -> Result<Call<'static>, OutOfMemory>
     requires { IsPlace path.now }
     ensures call { IfOk result (λ call. call ≡ create_dir volume path.now) }
     ensures askable { IfOk result (λ call. IsAskable call) }
@@ -25,7 +29,11 @@ pub fn create_dir(alloc: Global, volume: VolumeId, path: &[u8]) -> Result<Call, 
 
 /// FPCreateFile, in place of a file that is there.
 #[tactic(auto, using(crate::proofs::AskableLemmas::askable_create_file))]
-pub fn create_file(alloc: Global, volume: VolumeId, path: &[u8]) -> Result<Call, OutOfMemory>
+pub fn create_file(
+    alloc: Global,
+    volume: VolumeId,
+    path: &[u8],
+) -> Result<Call<'static>, OutOfMemory>
     requires { IsPlace path.now }
     ensures call { IfOk result (λ call. call ≡ create_file volume path.now) }
     ensures askable { IfOk result (λ call. IsAskable call) }
@@ -40,7 +48,7 @@ pub fn create_file(alloc: Global, volume: VolumeId, path: &[u8]) -> Result<Call,
 
 /// FPDelete.
 #[tactic(auto, using(crate::proofs::AskableLemmas::askable_delete))]
-pub fn delete(alloc: Global, volume: VolumeId, path: &[u8]) -> Result<Call, OutOfMemory>
+pub fn delete(alloc: Global, volume: VolumeId, path: &[u8]) -> Result<Call<'static>, OutOfMemory>
     requires { IsPlace path.now }
     ensures call { IfOk result (λ call. call ≡ delete volume path.now) }
     ensures askable { IfOk result (λ call. IsAskable call) }
@@ -54,7 +62,7 @@ pub fn delete(alloc: Global, volume: VolumeId, path: &[u8]) -> Result<Call, OutO
 
 /// FPGetFileDirParms, which asks the id.
 #[tactic(auto, using(crate::proofs::AskableLemmas::askable_get_id))]
-pub fn get_id(alloc: Global, volume: VolumeId, path: &[u8]) -> Result<Call, OutOfMemory>
+pub fn get_id(alloc: Global, volume: VolumeId, path: &[u8]) -> Result<Call<'static>, OutOfMemory>
     requires { IsPlace path.now }
     ensures call { IfOk result (λ call. call ≡ get_id volume path.now) }
     ensures askable { IfOk result (λ call. IsAskable call) }
@@ -70,7 +78,12 @@ pub fn get_id(alloc: Global, volume: VolumeId, path: &[u8]) -> Result<Call, OutO
 
 /// FPEnumerateExt2 of 64 entries from this one on, from 1, which asks ids and names.
 #[tactic(auto, using(crate::proofs::AskableLemmas::askable_list))]
-pub fn list(alloc: Global, volume: VolumeId, path: &[u8], start: u32) -> Result<Call, OutOfMemory>
+pub fn list(
+    alloc: Global,
+    volume: VolumeId,
+    path: &[u8],
+    start: u32,
+) -> Result<Call<'static>, OutOfMemory>
     requires { IsPlace path.now }
     ensures call { IfOk result (λ call. call ≡ list volume path.now start) }
     ensures askable { IfOk result (λ call. IsAskable call) }

@@ -5,8 +5,8 @@ ghost use Rattle.client_script_calls.specs.Places.{IsPlace, longest_place};
 ghost use Rattle.client_script_calls.specs.Requests.{close_fork, lock, open_fork, open_resource_fork, read, unlock, write};
 
 use crate::path::{ROOT, path_of};
-use afp_base::{Bytes, ForkRef, OutOfMemory, VolumeId};
-use afp_calls_grammar::Call;
+use afp_base::{ForkRef, OutOfMemory, VolumeId};
+use afp_calls_grammar::{Call, Piece};
 use std::alloc::Global;
 
 /// FPOpenFork of a data fork.
@@ -16,7 +16,7 @@ pub fn open_fork(
     volume: VolumeId,
     mode: u16,
     path: &[u8],
-) -> Result<Call, OutOfMemory>
+) -> Result<Call<'static>, OutOfMemory>
     requires { IsPlace path.now }
     ensures call { IfOk result (λ call. call ≡ open_fork volume mode path.now) }
     ensures askable { IfOk result (λ call. IsAskable call) }
@@ -38,7 +38,7 @@ pub fn open_resource_fork(
     volume: VolumeId,
     mode: u16,
     path: &[u8],
-) -> Result<Call, OutOfMemory>
+) -> Result<Call<'static>, OutOfMemory>
     requires { IsPlace path.now }
     ensures call { IfOk result (λ call. call ≡ open_resource_fork volume mode path.now) }
     ensures askable { IfOk result (λ call. IsAskable call) }
@@ -55,23 +55,23 @@ pub fn open_resource_fork(
 
 /// FPWrite at a fork's start.
 #[tactic(auto, using(crate::proofs::AskableLemmas::askable_write))]
-pub fn write(alloc: Global, reference: ForkRef, piece: &[u8]) -> Result<Call, OutOfMemory>
+pub fn write<'a>(reference: ForkRef, piece: &'a [u8]) -> Call<'a>
     requires { length piece.now ≤ longest_place }
-    ensures call { IfOk result (λ call. call ≡ write reference piece.now) }
-    ensures askable { IfOk result (λ call. IsAskable call) }
+    ensures call { result ≡ write reference piece.now }
+    ensures askable { IsAskable result }
 {
-    Ok(Call::Write {
+    Call::Write {
         flag: 0,
         reference,
         offset: 0,
         count: piece.len() as u32,
-        piece: Bytes::of(alloc, piece)?,
-    })
+        piece: Piece::new(piece),
+    }
 }
 
 /// FPRead of 65,536 bytes from this one on.
 #[tactic(auto, using(crate::proofs::AskableLemmas::askable_read))]
-pub fn read(reference: ForkRef, from: u32) -> Call
+pub fn read(reference: ForkRef, from: u32) -> Call<'static>
     requires { from < 2 ^ 31 }
     ensures call { result ≡ read reference from }
     ensures askable { IsAskable result }
@@ -87,7 +87,7 @@ pub fn read(reference: ForkRef, from: u32) -> Call
 
 /// FPCloseFork.
 #[tactic(auto, using(crate::proofs::AskableLemmas::askable_close_fork))]
-pub fn close_fork(reference: ForkRef) -> Call
+pub fn close_fork(reference: ForkRef) -> Call<'static>
     ensures call { result ≡ close_fork reference }
     ensures askable { IsAskable result }
 {
@@ -96,7 +96,7 @@ pub fn close_fork(reference: ForkRef) -> Call
 
 /// FPByteRangeLockExt of a range from the fork's start.
 #[tactic(auto, using(crate::proofs::AskableLemmas::askable_lock))]
-pub fn lock(reference: ForkRef, from: u64, size: u64) -> Call
+pub fn lock(reference: ForkRef, from: u64, size: u64) -> Call<'static>
     requires from { from < 2 ^ 63 }
     requires size { size < 2 ^ 63 }
     ensures call { result ≡ lock reference from size }
@@ -112,7 +112,7 @@ pub fn lock(reference: ForkRef, from: u64, size: u64) -> Call
 
 /// The same, which unlocks it.
 #[tactic(auto, using(crate::proofs::AskableLemmas::askable_lock))]
-pub fn unlock(reference: ForkRef, from: u64, size: u64) -> Call
+pub fn unlock(reference: ForkRef, from: u64, size: u64) -> Call<'static>
     requires from { from < 2 ^ 63 }
     requires size { size < 2 ^ 63 }
     ensures call { result ≡ unlock reference from size }

@@ -17,7 +17,7 @@ pub fn move_to(
     path: &[u8],
     target: &[u8],
     name: &[u8],
-) -> Result<Call, OutOfMemory>
+) -> Result<Call<'static>, OutOfMemory>
     requires path { IsPlace path.now }
     requires target { IsPlace target.now }
     requires name { IsPlace name.now }
@@ -42,7 +42,7 @@ pub fn copy_to(
     path: &[u8],
     target: &[u8],
     name: &[u8],
-) -> Result<Call, OutOfMemory>
+) -> Result<Call<'static>, OutOfMemory>
     requires path { IsPlace path.now }
     requires target { IsPlace target.now }
     requires name { IsPlace name.now }
@@ -67,7 +67,7 @@ pub fn exchange(
     volume: VolumeId,
     path: &[u8],
     target: &[u8],
-) -> Result<Call, OutOfMemory>
+) -> Result<Call<'static>, OutOfMemory>
     requires path { IsPlace path.now }
     requires target { IsPlace target.now }
     ensures call { IfOk result (λ call. call ≡ exchange volume path.now target.now) }

@@ -11,7 +11,7 @@ use std::alloc::Global;
 
 /// FPGetFileDirParms, which asks the dates, the Finder information and the name of a file, and the id of a directory.
 #[tactic(auto, using(crate::proofs::AskableLemmas::askable_get_id))]
-pub fn get_shown(alloc: Global, volume: VolumeId, path: &[u8]) -> Result<Call, OutOfMemory>
+pub fn get_shown(alloc: Global, volume: VolumeId, path: &[u8]) -> Result<Call<'static>, OutOfMemory>
     requires { IsPlace path.now }
     ensures call { IfOk result (λ call. call ≡ get_shown volume path.now) }
     ensures askable { IfOk result (λ call. IsAskable call) }
@@ -68,7 +68,7 @@ pub fn set_file(
     modified: i32,
     backup: i32,
     finder: &[u8; 32],
-) -> Result<Call, OutOfMemory>
+) -> Result<Call<'static>, OutOfMemory>
     requires { IsPlace path.now }
     ensures call { IfOk result (λ call. call ≡ set_file volume path.now (settings_of created modified backup finder.now)) }
     ensures askable { IfOk result (λ call. IsAskable call) }

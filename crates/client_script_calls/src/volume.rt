@@ -10,7 +10,7 @@ use std::alloc::Global;
 
 /// FPOpenVol of a volume, which asks its id.
 #[tactic(auto, using(crate::proofs::AskableLemmas::askable_open_vol))]
-pub fn open_volume(alloc: Global, name: &[u8]) -> Result<Call, OutOfMemory>
+pub fn open_volume(alloc: Global, name: &[u8]) -> Result<Call<'static>, OutOfMemory>
     requires { length name.now < 256 }
     ensures call { IfOk result (λ call. call ≡ open_volume name.now) }
     ensures askable { IfOk result (λ call. IsAskable call) }
@@ -23,7 +23,7 @@ pub fn open_volume(alloc: Global, name: &[u8]) -> Result<Call, OutOfMemory>
 
 /// FPResolveID of a file, which asks its name.
 #[tactic(auto, using(crate::proofs::AskableLemmas::askable_resolve))]
-pub fn resolve(volume: VolumeId, id: NodeId) -> Call
+pub fn resolve(volume: VolumeId, id: NodeId) -> Call<'static>
     ensures call { result ≡ resolve volume id }
     ensures askable { IsAskable result }
 {
@@ -36,7 +36,7 @@ pub fn resolve(volume: VolumeId, id: NodeId) -> Call
 
 /// FPLogout.
 #[tactic(auto, using(crate::proofs::AskableLemmas::askable_logout))]
-pub fn logout() -> Call
+pub fn logout() -> Call<'static>
     ensures call { result ≡ calls.Logout }
     ensures askable { IsAskable result }
 {

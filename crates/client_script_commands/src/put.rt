@@ -26,7 +26,7 @@ pub fn put<A: Asker>(
     parts_end::<A>();
     must_do(asker, calls::create_file(alloc, volume, path)?)?;
     let reference = ask_fork(asker, calls::open_fork(alloc, volume, 0x22, path)?)?;
-    in_fork(asker, reference, calls::write(alloc, reference, piece)?)?;
+    in_fork(asker, reference, calls::write(reference, piece))?;
     must_do(asker, calls::close_fork(reference))?;
     Ok(numbered(alloc, b"put ", piece.len() as u64)?)
 }

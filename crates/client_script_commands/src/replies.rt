@@ -26,7 +26,7 @@ fn node_of(reply: &Reply) -> Option<u32>
 /// Asks a call whose reply tells the id of a new directory.
 pub(crate) fn ask_node<A: Asker>(asker: &mut A, call: Call) -> Result<u32, Stop<A::End>>
     requires { IsAskable call }
-    ensures { MustTell node_in call (A.exchanges asker.old) result (A.exchanges asker.new) }
+    ensures { MustTell node_in call.entry (A.exchanges asker.old) result (A.exchanges asker.new) }
 {
     replies_tell::<A, u32>();
     let reply = must(asker, call)?;
@@ -54,7 +54,7 @@ fn volume_of(reply: &Reply) -> Option<VolumeId>
 /// Asks a call whose reply tells a volume that was opened.
 pub(crate) fn ask_volume<A: Asker>(asker: &mut A, call: Call) -> Result<VolumeId, Stop<A::End>>
     requires { IsAskable call }
-    ensures { MustTell volume_in call (A.exchanges asker.old) result (A.exchanges asker.new) }
+    ensures { MustTell volume_in call.entry (A.exchanges asker.old) result (A.exchanges asker.new) }
 {
     replies_tell::<A, VolumeId>();
     let reply = must(asker, call)?;
@@ -79,7 +79,7 @@ fn fork_of(reply: &Reply) -> Option<ForkRef>
 /// Asks a call whose reply tells a fork that was opened.
 pub fn ask_fork<A: Asker>(asker: &mut A, call: Call) -> Result<ForkRef, Stop<A::End>>
     requires { IsAskable call }
-    ensures { MustTell fork_in call (A.exchanges asker.old) result (A.exchanges asker.new) }
+    ensures { MustTell fork_in call.entry (A.exchanges asker.old) result (A.exchanges asker.new) }
 {
     replies_tell::<A, ForkRef>();
     let reply = must(asker, call)?;
@@ -104,7 +104,7 @@ fn start_of(reply: &Reply) -> Option<u64>
 /// Asks a call whose reply tells the first byte of a lock.
 pub(crate) fn ask_start<A: Asker>(asker: &mut A, call: Call) -> Result<u64, Stop<A::End>>
     requires { IsAskable call }
-    ensures { MustTell start_in call (A.exchanges asker.old) result (A.exchanges asker.new) }
+    ensures { MustTell start_in call.entry (A.exchanges asker.old) result (A.exchanges asker.new) }
 {
     replies_tell::<A, u64>();
     let reply = must(asker, call)?;
@@ -129,7 +129,7 @@ fn desk_of(reply: &Reply) -> Option<u16>
 /// Asks a call whose reply tells a desktop database.
 pub fn ask_desk<A: Asker>(asker: &mut A, call: Call) -> Result<u16, Stop<A::End>>
     requires { IsAskable call }
-    ensures { MustTell desk_in call (A.exchanges asker.old) result (A.exchanges asker.new) }
+    ensures { MustTell desk_in call.entry (A.exchanges asker.old) result (A.exchanges asker.new) }
 {
     replies_tell::<A, u16>();
     let reply = must(asker, call)?;
@@ -161,7 +161,7 @@ fn id_of(reply: &Reply) -> Option<u32>
 /// Asks a call whose reply tells the id of a file or a directory.
 pub(crate) fn ask_id<A: Asker>(asker: &mut A, call: Call) -> Result<u32, Stop<A::End>>
     requires { IsAskable call }
-    ensures { MustTell id_in call (A.exchanges asker.old) result (A.exchanges asker.new) }
+    ensures { MustTell id_in call.entry (A.exchanges asker.old) result (A.exchanges asker.new) }
 {
     replies_tell::<A, u32>();
     let reply = must(asker, call)?;
@@ -189,7 +189,7 @@ fn name_of(reply: &Reply) -> Result<Option<Bytes>, OutOfMemory>
 /// Asks a call whose reply tells the name of a file.
 pub(crate) fn ask_name<A: Asker>(asker: &mut A, call: Call) -> Result<Bytes, Stop<A::End>>
     requires { IsAskable call }
-    ensures { MustTell name_in call (A.exchanges asker.old) result (A.exchanges asker.new) }
+    ensures { MustTell name_in call.entry (A.exchanges asker.old) result (A.exchanges asker.new) }
 {
     replies_tell::<A, Bytes>();
     let reply = must(asker, call)?;
@@ -215,7 +215,7 @@ fn comment_of(reply: &Reply) -> Result<Option<Bytes>, OutOfMemory>
 /// Asks a call whose reply tells a comment.
 pub(crate) fn ask_comment<A: Asker>(asker: &mut A, call: Call) -> Result<Bytes, Stop<A::End>>
     requires { IsAskable call }
-    ensures { MustTell comment_in call (A.exchanges asker.old) result (A.exchanges asker.new) }
+    ensures { MustTell comment_in call.entry (A.exchanges asker.old) result (A.exchanges asker.new) }
 {
     replies_tell::<A, Bytes>();
     let reply = must(asker, call)?;

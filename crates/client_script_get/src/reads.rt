@@ -141,7 +141,7 @@ fn read_all<A: Asker>(
 #[tactic(auto, unfolding(crate::specs::Reads::read_fork))]
 pub fn read_fork<A: Asker>(alloc: Global, asker: &mut A, opens: Call) -> Result<Bytes, Stop<A::End>>
     requires { IsAskable opens }
-    ensures { ReadsFork opens (A.exchanges asker.old) result (A.exchanges asker.new) }
+    ensures { ReadsFork opens.entry (A.exchanges asker.old) result (A.exchanges asker.new) }
 {
     let reference = ask_fork(asker, opens)?;
     let bytes = read_all(alloc, asker, reference)?;

@@ -5,11 +5,12 @@ ghost use Rattle.client_script_links.specs.Read.{zipped};
 use afp_calls_grammar::Call;
 use client_script_parts::Answer;
 use ghost_log::Log;
+use ghost_notes::Notes;
 
 /// Exchanges in the order in which they came, which only proofs read.
 #[derive(Drop)]
 pub struct Exchanges {
-    pub(crate) calls: Log<Call>,
+    pub(crate) calls: Notes<Call<'static>>,
     pub(crate) answers: Log<Answer>,
     ghost paired: { length calls.items ≡ length answers.items },
 }
@@ -20,7 +21,7 @@ impl Exchanges {
         ensures { zipped result.calls.items result.answers.items ≡ [] }
     {
         Exchanges {
-            calls: Log::new(),
+            calls: Notes::new(),
             answers: Log::new(),
         }
     }

@@ -38,8 +38,8 @@ fn let_call_go(_call: Call) {}
 #[tactic(auto, using(client_script_parts::proofs::PartLemmas::any_told, client_script_parts::proofs::PartLemmas::any_waits))]
 fn ask_list<A: Asker>(asker: &mut A, call: Call) -> Result<Answer, Stop<A::End>>
     requires { IsAskable call }
-    ensures any { AnyTells call (A.exchanges asker.old) result (A.exchanges asker.new) }
-    ensures log { Logs call (A.exchanges asker.old) result (A.exchanges asker.new) }
+    ensures any { AnyTells call.entry (A.exchanges asker.old) result (A.exchanges asker.new) }
+    ensures log { Logs call.entry (A.exchanges asker.old) result (A.exchanges asker.new) }
     ensures falls { OnOk result (A.left asker.new < A.left asker.old) }
 {
     let told = asker.ask(&call);

@@ -69,7 +69,7 @@ fn ask_comment<A: Asker>(
     call: Call,
 ) -> Result<Option<Bytes>, Stop<A::End>>
     requires { IsAskable call }
-    ensures told { AsksComment call (A.exchanges asker.old) result (A.exchanges asker.new) }
+    ensures told { AsksComment call.entry (A.exchanges asker.old) result (A.exchanges asker.new) }
     ensures is { IfOk result (λ comment. IfSome comment IsComment) }
 {
     parts_end::<A>();

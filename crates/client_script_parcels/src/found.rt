@@ -63,7 +63,7 @@ fn found_of(reply: &Reply) -> Result<Option<Found>, OutOfMemory>
 /// Asks a call whose reply tells a file or a directory.
 pub(crate) fn ask_found<A: Asker>(asker: &mut A, call: Call) -> Result<Found, Stop<A::End>>
     requires { IsAskable call }
-    ensures { MustTell found_in call (A.exchanges asker.old) result (A.exchanges asker.new) }
+    ensures { MustTell found_in call.entry (A.exchanges asker.old) result (A.exchanges asker.new) }
 {
     replies_tell::<A, Found>();
     let reply = must(asker, call)?;

@@ -7,11 +7,10 @@ ghost use Rattle.client_script_parts.specs.Parts.{Comes};
 
 use crate::held::parcel_of;
 use crate::printed::bad_parcel;
-use crate::writes::{set_file, write_comment, write_fork};
+use crate::writes::{make_file, set_parms, write_comment, write_data, write_resource};
 use afp_base::{Bytes, VolumeId};
 use apple_double::Parcel;
-use client_script_calls as calls;
-use client_script_parts::{Asker, Stop, must_do, parts_end};
+use client_script_parts::{Asker, Stop, parts_end};
 use client_script_texts::numbered;
 use std::alloc::Global;
 
@@ -29,22 +28,12 @@ fn unpack_file<A: Asker>(
     ensures { Comes (A.exchanges asker.old) (unpack_file volume path.now p.now) result (A.exchanges asker.new) }
 {
     parts_end::<A>();
-    must_do(asker, calls::create_file(alloc, volume, path)?)?;
+    make_file(alloc, asker, volume, path)?;
     let data_fork = p.data_fork.as_slice();
-    write_fork(
-        alloc,
-        asker,
-        calls::open_fork(alloc, volume, 0x22, path)?,
-        data_fork,
-    )?;
+    write_data(alloc, asker, volume, path, data_fork)?;
     let resource_fork = p.resource_fork.as_slice();
-    write_fork(
-        alloc,
-        asker,
-        calls::open_resource_fork(alloc, volume, 0x22, path)?,
-        resource_fork,
-    )?;
-    must_do(asker, set_file(alloc, volume, path, p)?)?;
+    write_resource(alloc, asker, volume, path, resource_fork)?;
+    set_parms(alloc, asker, volume, path, p)?;
     write_comment(alloc, asker, volume, path, &p.comment)?;
     let size = (data_fork.len() + resource_fork.len()) as u64;
     Ok(numbered(alloc, b"unpacked ", size)?)

@@ -2,7 +2,8 @@
 ghost use Rattle.std.specs.Prelude.{◌≡◌, ◌≤◌, ◌<◌, length, IfOk, IfSome};
 ghost use Rattle.client_script_calls.specs.Asked.{IsAskable};
 ghost use Rattle.client_script_calls.specs.Places.{IsPlace, longest_place};
-ghost use Rattle.client_script_calls.specs.Requests.{set_file, settings_of};
+ghost use Rattle.client_script_calls.specs.Requests.{create_file, open_fork, open_resource_fork, set_file, settings_of, to_put};
+ghost use Rattle.client_script_parts.specs.Told.{MustDo};
 ghost use Rattle.client_script_parcels.specs.lemma.Telling.{WritesComment, WritesFork, WritesWhole};
 
 use afp_base::{Bytes, OutOfMemory, VolumeId};
@@ -18,51 +19,106 @@ fn let_go(_call: Call) {}
 
 /// Writes a fork that this call opens, and closes it.
 #[tactic(auto, unfolding(crate::specs::Unpack::write_whole))]
-fn write_whole<A: Asker>(
-    alloc: Global,
-    asker: &mut A,
-    opens: Call,
-    piece: &[u8],
-) -> Result<(), Stop<A::End>>
+fn write_whole<A: Asker>(asker: &mut A, opens: Call, piece: &[u8]) -> Result<(), Stop<A::End>>
     requires opens { IsAskable opens }
     requires piece { length piece.now ≤ longest_place }
-    ensures { WritesWhole opens piece.now (A.exchanges asker.old) result (A.exchanges asker.new) }
+    ensures { WritesWhole opens.entry piece.now (A.exchanges asker.old) result (A.exchanges asker.new) }
 {
     parts_end::<A>();
     let reference = ask_fork(asker, opens)?;
-    in_fork(asker, reference, calls::write(alloc, reference, piece)?)?;
+    in_fork(asker, reference, calls::write(reference, piece))?;
     must_do(asker, calls::close_fork(reference))
 }
 
 /// The same, where there are bytes; else the fork is not opened.
 #[tactic(auto, using(crate::proofs::WriteLemmas::writes_none, crate::proofs::WriteLemmas::writes_some, crate::proofs::WriteLemmas::writes_stop))]
-pub(crate) fn write_fork<A: Asker>(
-    alloc: Global,
-    asker: &mut A,
-    opens: Call,
-    piece: &[u8],
-) -> Result<(), Stop<A::End>>
+fn write_fork<A: Asker>(asker: &mut A, opens: Call, piece: &[u8]) -> Result<(), Stop<A::End>>
     requires opens { IsAskable opens }
     requires piece { length piece.now ≤ longest_place }
-    ensures { WritesFork opens piece.now (A.exchanges asker.old) result (A.exchanges asker.new) }
+    ensures { WritesFork opens.entry piece.now (A.exchanges asker.old) result (A.exchanges asker.new) }
 {
     if piece.len() == 0 {
         let_go(opens);
         return Ok(());
     }
-    match write_whole(alloc, asker, opens, piece) {
+    match write_whole(asker, opens, piece) {
         Ok(()) => Ok(()),
         Err(stop) => Err(stop),
     }
 }
 
+/// Makes a file.
+pub(crate) fn make_file<A: Asker>(
+    alloc: Global,
+    asker: &mut A,
+    volume: VolumeId,
+    path: &[u8],
+) -> Result<(), Stop<A::End>>
+    requires { IsPlace path.now }
+    ensures { MustDo (create_file volume path.now) (A.exchanges asker.old) result (A.exchanges asker.new) }
+{
+    parts_end::<A>();
+    must_do(asker, calls::create_file(alloc, volume, path)?)
+}
+
+/// Writes a file's data fork.
+pub(crate) fn write_data<A: Asker>(
+    alloc: Global,
+    asker: &mut A,
+    volume: VolumeId,
+    path: &[u8],
+    piece: &[u8],
+) -> Result<(), Stop<A::End>>
+    requires path { IsPlace path.now }
+    requires piece { length piece.now ≤ longest_place }
+    ensures { WritesFork (open_fork volume to_put path.now) piece.now (A.exchanges asker.old) result (A.exchanges asker.new) }
+{
+    parts_end::<A>();
+    write_fork(asker, calls::open_fork(alloc, volume, 0x22, path)?, piece)
+}
+
+/// Writes a file's resource fork.
+pub(crate) fn write_resource<A: Asker>(
+    alloc: Global,
+    asker: &mut A,
+    volume: VolumeId,
+    path: &[u8],
+    piece: &[u8],
+) -> Result<(), Stop<A::End>>
+    requires path { IsPlace path.now }
+    requires piece { length piece.now ≤ longest_place }
+    ensures { WritesFork (open_resource_fork volume to_put path.now) piece.now (A.exchanges asker.old) result (A.exchanges asker.new) }
+{
+    parts_end::<A>();
+    write_fork(
+        asker,
+        calls::open_resource_fork(alloc, volume, 0x22, path)?,
+        piece,
+    )
+}
+
+/// Sets a file's dates and its Finder information.
+pub(crate) fn set_parms<A: Asker>(
+    alloc: Global,
+    asker: &mut A,
+    volume: VolumeId,
+    path: &[u8],
+    p: &Parcel,
+) -> Result<(), Stop<A::End>>
+    requires { IsPlace path.now }
+    ensures { MustDo (set_file volume path.now (settings_of p.now.created p.now.modified p.now.backup p.now.finder)) (A.exchanges asker.old) result (A.exchanges asker.new) }
+{
+    parts_end::<A>();
+    must_do(asker, set_file(alloc, volume, path, p)?)
+}
+
 /// The call that sets a file's dates and its Finder information.
-pub(crate) fn set_file(
+fn set_file(
     alloc: Global,
     volume: VolumeId,
     path: &[u8],
     p: &Parcel,
-) -> Result<Call, OutOfMemory>
+) -> Result<Call<'static>, OutOfMemory>
     requires { IsPlace path.now }
     ensures call { IfOk result (λ call. call ≡ set_file volume path.now (settings_of p.now.created p.now.modified p.now.backup p.now.finder)) }
     ensures askable { IfOk result (λ call. IsAskable call) }

@@ -23,8 +23,8 @@ fn let_answer_go(_answer: Answer) {}
 /// Asks a call.
 pub fn ask<A: Asker>(asker: &mut A, call: Call) -> Result<Answer, Stop<A::End>>
     requires { IsAskable call }
-    ensures tells { AskTells call (A.exchanges asker.old) result (A.exchanges asker.new) }
-    ensures any { AnyTells call (A.exchanges asker.old) result (A.exchanges asker.new) }
+    ensures tells { AskTells call.entry (A.exchanges asker.old) result (A.exchanges asker.new) }
+    ensures any { AnyTells call.entry (A.exchanges asker.old) result (A.exchanges asker.new) }
     ensures falls { OnOk result (A.left asker.new < A.left asker.old) }
 {
     let told = asker.ask(&call);
@@ -38,7 +38,7 @@ pub fn ask<A: Asker>(asker: &mut A, call: Call) -> Result<Answer, Stop<A::End>>
 /// Asks a call that must be told Ok.
 pub fn must<A: Asker>(asker: &mut A, call: Call) -> Result<Reply, Stop<A::End>>
     requires { IsAskable call }
-    ensures tells { MustTells call (A.exchanges asker.old) result (A.exchanges asker.new) }
+    ensures tells { MustTells call.entry (A.exchanges asker.old) result (A.exchanges asker.new) }
     ensures falls { OnOk result (A.left asker.new < A.left asker.old) }
 {
     match ask(asker, call) {
@@ -66,7 +66,7 @@ pub fn close_refused<A: Asker>(asker: &mut A, reference: ForkRef, code: Code) ->
 /// Asks a call in an open fork: where it is refused, the fork is closed.
 pub fn in_fork<A: Asker>(asker: &mut A, reference: ForkRef, call: Call) -> Result<(), Stop<A::End>>
     requires { IsAskable call }
-    ensures { InForkTells reference call (A.exchanges asker.old) result (A.exchanges asker.new) }
+    ensures { InForkTells reference call.entry (A.exchanges asker.old) result (A.exchanges asker.new) }
 {
     match ask(asker, call) {
         Ok(answer) => match answer.code {
@@ -90,7 +90,7 @@ fn let_reply_go(_reply: Reply) {}
 /// Asks a call that must be told Ok, whatever its reply.
 pub fn must_do<A: Asker>(asker: &mut A, call: Call) -> Result<(), Stop<A::End>>
     requires { IsAskable call }
-    ensures { MustDo call (A.exchanges asker.old) result (A.exchanges asker.new) }
+    ensures { MustDo call.entry (A.exchanges asker.old) result (A.exchanges asker.new) }
 {
     match must(asker, call) {
         Ok(reply) => {

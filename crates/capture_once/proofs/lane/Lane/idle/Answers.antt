@@ -1,4 +1,5 @@
 use Rattle.std.proofs.Common.{◌≡◌, Bool, false, sym, subst, ◌∙◌}
+use Rattle.afp_serial.specs.Answered.{told_of}
 use Rattle.once_across_breaks_run.specs.Things as things
 use Rattle.capture_once.specs.lemma.Lanes.{IsLane}
 use Rattle.capture_once.proofs.LaneLemmas.{idles-none, idles-some}
@@ -9,5 +10,5 @@ returns-in-None g c = λ x is. idles-none c.args.now c.args.self.now x (g.T.Tell
 
 pub returns-in-Some : goal.returns-in-Some
 returns-in-Some g c = λ x is.
-    idles-some c.args.now c.args.self.now c.end_where.new.self x (g.T.Teller.shown c.args.teller.now) (g.T.Teller.shown c.ask-told.new.self) c.in-Some.link c.ask-told.result is (sym c.link.ensures ∙ c.in-Some.is) c.ask-told.ensures.asked
-    (subst (λ (b : Bool). (y : things.Lane) → IsLane c.args.self.now y → y.ended ≡ false → IsLane c.end_where.new.self (record { wire = y.wire; ended = b; up = y.up; down = y.down })) c.is_displaced.ensures c.end_where.ensures)
+    idles-some c.args.now c.args.self.now c.end_where.new.self x (g.T.Teller.shown c.args.teller.now) (g.T.Teller.shown c.ask-answered.new.self) c.in-Some.link (told_of c.ask-answered.result c.ask-answered.new.out) is (sym c.link.ensures ∙ c.in-Some.is) c.ask-answered.ensures.asked
+    (subst (λ (b : Bool). (y : things.Lane) → IsLane c.args.self.now y → y.ended ≡ false → IsLane c.end_where.new.self (record { wire = y.wire; ended = b; up = y.up; down = y.down })) (c.is_displaced.ensures c.ask-answered.new.out) c.end_where.ensures)
