@@ -95,3 +95,21 @@ pub fn nth(rt: &HostRuntime, rows: &Rows, jumps: bool) -> io::Result<u64> {
     }
     each(rt, since, CALLS, found)
 }
+
+/// The place of a directory of the root behind others of its kind. How many others there are jumps about, or comes in turn.
+pub fn place_behind(rt: &HostRuntime, rows: &Rows, jumps: bool) -> io::Result<u64> {
+    let bound = children(rows).max(1);
+    let since = spent(rt)?;
+    let mut found: u32 = 0;
+    for turn in 0..CALLS {
+        let i = if jumps {
+            scattered(turn, bound)
+        } else {
+            turn % bound
+        };
+        if rows.place_behind(ROOT, false, 0, i as usize).is_some() {
+            found = found.saturating_add(1);
+        }
+    }
+    each(rt, since, CALLS, found)
+}

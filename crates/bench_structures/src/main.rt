@@ -60,6 +60,18 @@ fn print_looks(rt: &HostRuntime, small: &Rows, large: &Rows) -> io::Result<()> {
         "nth, jumping",
         looks::nth(rt, small, true)?,
         looks::nth(rt, large, true)?,
+    )?;
+    print_row(
+        rt,
+        "behind others of its kind, in turn",
+        looks::place_behind(rt, small, false)?,
+        looks::place_behind(rt, large, false)?,
+    )?;
+    print_row(
+        rt,
+        "behind others of its kind, jumping",
+        looks::place_behind(rt, small, true)?,
+        looks::place_behind(rt, large, true)?,
     )
 }
 

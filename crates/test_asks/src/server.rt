@@ -1,8 +1,8 @@
 //! A server in memory, and what it is asked.
 use crate::houses::{keepers_of, server_with};
-use afp_base::{LinkNumber, Moment};
+use afp_base::{LinkNumber, MAX_PAYLOAD, Moment};
 use afp_core::{Core, ListTeller};
-use afp_serial::{Ask, House, Teller, Told};
+use afp_serial::{Answered, Ask, House, Teller};
 use record_keeper::MemoryKeeper;
 use std::alloc::Global;
 use test_case_lines::{CaseFault, bytes_of, moment_of, owned, put_word, text_of};
@@ -128,19 +128,20 @@ fn reply_text(alloc: Global, code: i32, block: &[u8], ends: bool) -> Result<Stri
     Ok(text)
 }
 
-fn told_text(alloc: Global, told: &Told) -> Result<String, CaseFault> {
-    match told {
-        Told::Opened { link } => {
+/// What is told, whose block is the first bytes of `out`.
+fn told_text(alloc: Global, answered: Answered, out: &[u8]) -> Result<String, CaseFault> {
+    match answered {
+        Answered::Opened { link } => {
             let link = link.0;
             Ok(format!(in alloc; "opened {link}")?)
         }
-        Told::Reply { code, block, ends } => {
-            reply_text(alloc, code.number(), block.as_slice(), *ends)
+        Answered::Reply { code, size, ends } => {
+            reply_text(alloc, code.number(), &out[..size.min(out.len())], ends)
         }
-        Told::Live { drain } => live_text(alloc, *drain),
-        Told::Done => text_of(alloc, "done"),
-        Told::Displaced => text_of(alloc, "displaced"),
-        Told::Memory => Err(CaseFault::Memory),
+        Answered::Live { drain } => live_text(alloc, drain),
+        Answered::Done => text_of(alloc, "done"),
+        Answered::Displaced => text_of(alloc, "displaced"),
+        Answered::Memory => Err(CaseFault::Memory),
     }
 }
 
@@ -153,6 +154,9 @@ pub fn ask(alloc: Global, server: &mut Server, words: &[&str]) -> Result<String,
     let link = LinkNumber(link.parse::<u64>()?);
     let ask = ask_of(alloc, words)?;
     let copy = ask.copy()?;
-    let told = server.teller.ask(server.now, link, copy);
-    told_text(alloc, &told)
+    let mut out = vec![in alloc; 0u8; MAX_PAYLOAD as usize]?;
+    let answered = server
+        .teller
+        .ask(server.now, link, copy, out.as_mut_slice());
+    told_text(alloc, answered, out.as_slice())
 }

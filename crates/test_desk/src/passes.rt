@@ -1,5 +1,6 @@
 //! Two passes of one desk.
-ghost use Rattle.std.specs.Prelude.{◌≡◌, ◌≢◌, length};
+ghost use Rattle.std.specs.Prelude.{◌≡◌, ◌≢◌, ◌≤◌, length};
+ghost use Rattle.afp_base.specs.Limits.{payload_limit};
 ghost use Rattle.afp_base.specs.Counts.{counted};
 ghost use Rattle.afp_serial.specs.Answer.{link_number};
 ghost use Rattle.afp_serial.specs.History.{opened_in};
@@ -10,23 +11,25 @@ ghost use Rattle.afp_desk.specs.Passes.{IsOf, view, shown, share};
 ghost use Rattle.afp_desk.specs.Rule.{all_shares};
 
 use crate::house::{moment, new_core, open};
-use afp_base::{LinkNumber, OutOfMemory};
+use afp_base::{LinkNumber, MAX_PAYLOAD, OutOfMemory};
 use afp_core::Counts;
 use afp_desk::{Desk, Pass};
-use afp_serial::Told;
+use afp_serial::Answered;
 use record_keeper::Keeper;
 use std::alloc::Global;
 use std::sync::Wait;
 
 /// Asks for a session at link 0. The link that is told, or 0 where none is. Where one is, the pass shows the ask as the last entry.
-fn opened<K: Keeper, R: Wait>(rt: &R, desk: &Desk<K>, pass: &mut Pass<K>) -> u64
-    requires { IsOf desk.now pass.old }
+fn opened<K: Keeper, R: Wait>(rt: &R, desk: &Desk<K>, pass: &mut Pass<K>, out: &mut [u8]) -> u64
+    requires desk { IsOf desk.now pass.old }
+    requires room { payload_limit ≤ length out.old }
+    ensures length { length out.new ≡ length out.old }
     ensures desk { IsOf desk.now pass.new }
     ensures share { share pass.new ≡ share pass.old }
     ensures entry { result ≢ 0 → Adds (shown pass.old) 100 (link_number 0) (ask.Open 1024) (told.Opened (link_number result)) (shown pass.new) }
 {
-    match desk.call(rt, pass, moment(), LinkNumber(0), open()) {
-        Told::Opened { link } => link.0,
+    match desk.call(rt, pass, moment(), LinkNumber(0), open(), out) {
+        Answered::Opened { link } => link.0,
         _ => 0,
     }
 }
@@ -48,8 +51,9 @@ fn met<R: Wait>(rt: &R, alloc: Global) -> Result<(u64, u64, Counts), OutOfMemory
         return Err(OutOfMemory);
     };
     let mut second = desk.split(&mut first);
-    let one = opened(rt, &desk, &mut first);
-    let two = opened(rt, &desk, &mut second);
+    let mut out = vec![in alloc; 0u8; MAX_PAYLOAD as usize]?;
+    let one = opened(rt, &desk, &mut first, out.as_mut_slice());
+    let two = opened(rt, &desk, &mut second, out.as_mut_slice());
     desk.meet(&mut first, second);
     Ok((one, two, closed(desk, first)))
 }

@@ -1,8 +1,8 @@
 //! A pass that reads what it wrote.
 use crate::house::{moment, new_core, open};
-use afp_base::{Bytes, Code, LinkNumber, OutOfMemory};
+use afp_base::{Bytes, Code, LinkNumber, MAX_PAYLOAD, OutOfMemory};
 use afp_desk::{Desk, DeskTeller};
-use afp_serial::{Ask, Teller, Told};
+use afp_serial::{Answered, Ask, Teller};
 use std::alloc::Global;
 use std::sync::Wait;
 
@@ -22,14 +22,33 @@ fn calls() -> &'static [(&'static [u8], &'static [u8])] {
     ]
 }
 
-/// Whether it is the reply Ok with this block.
-fn is_reply(told: &Told, want: &[u8]) -> bool {
-    match told {
-        Told::Reply { code, block, ends } => {
-            *code == Code::Ok && block.as_slice() == want && !*ends
+/// Whether it is the reply Ok with this block, which is the first bytes of `out`.
+fn is_reply(answered: Answered, out: &[u8], want: &[u8]) -> bool {
+    match answered {
+        Answered::Reply { code, size, ends } => {
+            code == Code::Ok && &out[..size.min(out.len())] == want && !ends
         }
         _ => false,
     }
+}
+
+/// Whether the teller tells this call on link 1 the block that is wanted.
+fn tells_one<T: Teller>(
+    alloc: Global,
+    teller: &mut T,
+    id: u16,
+    call: &[u8],
+    want: &[u8],
+) -> Result<bool, OutOfMemory> {
+    let mut out = vec![in alloc; 0u8; MAX_PAYLOAD as usize]?;
+    let ask = Ask::Call {
+        id,
+        write: false,
+        offset: 0,
+        payload: Bytes::of(alloc, call)?,
+    };
+    let answered = teller.ask(moment(), LinkNumber(1), ask, out.as_mut_slice());
+    Ok(is_reply(answered, out.as_slice(), want))
 }
 
 /// Whether the teller tells each call on link 1 the block that is wanted.
@@ -41,13 +60,7 @@ fn tells<T: Teller>(
     let mut id: u16 = 0;
     for (call, want) in calls {
         id = id.saturating_add(1);
-        let ask = Ask::Call {
-            id,
-            write: false,
-            offset: 0,
-            payload: Bytes::of(alloc, call)?,
-        };
-        if !is_reply(&teller.ask(moment(), LinkNumber(1), ask), want) {
+        if !tells_one(alloc, teller, id, call, want)? {
             return Ok(false);
         }
     }
@@ -68,7 +81,8 @@ fn pass_tells<R: Wait>(
         desk: &desk,
         pass: &mut pass,
     };
-    teller.ask(moment(), LinkNumber(0), open());
+    let mut out = vec![in alloc; 0u8; MAX_PAYLOAD as usize]?;
+    teller.ask(moment(), LinkNumber(0), open(), out.as_mut_slice());
     tells(alloc, &mut teller, calls)
 }
 

@@ -1,7 +1,7 @@
 //! What the client is asked, and what happens to its bytes.
 use crate::server::moment;
 use afp_base::{Bytes, ForkRef, NodeId, OutOfMemory, VolumeId};
-use afp_calls_grammar::Call;
+use afp_calls_grammar::{Call, Piece};
 use afp_names::{Path, UTF8_NAMES};
 use capture_once::Happening;
 use std::alloc::Global;
@@ -19,7 +19,7 @@ fn path(alloc: Global) -> Result<Path, OutOfMemory> {
 }
 
 /// FPOpenVol of `Share`.
-pub fn open_volume(alloc: Global) -> Result<Call, OutOfMemory> {
+pub fn open_volume(alloc: Global) -> Result<Call<'static>, OutOfMemory> {
     Ok(Call::OpenVol {
         bits: 0x20,
         name: Bytes::of(alloc, b"Share")?,
@@ -27,7 +27,7 @@ pub fn open_volume(alloc: Global) -> Result<Call, OutOfMemory> {
 }
 
 /// FPCreateFile of `f`.
-pub fn create_file(alloc: Global) -> Result<Call, OutOfMemory> {
+pub fn create_file(alloc: Global) -> Result<Call<'static>, OutOfMemory> {
     Ok(Call::CreateFile {
         flag: 0,
         volume: SHARE,
@@ -37,7 +37,7 @@ pub fn create_file(alloc: Global) -> Result<Call, OutOfMemory> {
 }
 
 /// FPOpenFork of `f`, to write.
-pub fn open_fork(alloc: Global) -> Result<Call, OutOfMemory> {
+pub fn open_fork(alloc: Global) -> Result<Call<'static>, OutOfMemory> {
     Ok(Call::OpenFork {
         flag: 0,
         volume: SHARE,
@@ -49,18 +49,22 @@ pub fn open_fork(alloc: Global) -> Result<Call, OutOfMemory> {
 }
 
 /// FPWrite of one byte at the fork's end.
-pub fn append(alloc: Global) -> Result<Call, OutOfMemory> {
-    Ok(Call::Write {
+pub fn append() -> Call<'static> {
+    Call::Write {
         flag: 0x80,
         reference: ForkRef(1),
         offset: 0,
         count: 1,
-        piece: Bytes::of(alloc, b"x")?,
-    })
+        piece: Piece::new(b"x"),
+    }
 }
 
 /// All bytes under way on a link arrive, first at the server end and then at the client, so many times.
-pub fn put_arrivals(events: &mut Vec<Happening>, link: u32, times: u32) -> Result<(), OutOfMemory> {
+pub fn put_arrivals(
+    events: &mut Vec<Happening<'static>>,
+    link: u32,
+    times: u32,
+) -> Result<(), OutOfMemory> {
     for _time in 0..times {
         events.push(Happening::ToServer {
             link,
@@ -76,13 +80,17 @@ pub fn put_arrivals(events: &mut Vec<Happening>, link: u32, times: u32) -> Resul
 }
 
 /// A call is asked on a link that stays, and its reply comes.
-pub fn put_call(events: &mut Vec<Happening>, link: u32, call: Call) -> Result<(), OutOfMemory> {
+pub fn put_call(
+    events: &mut Vec<Happening<'static>>,
+    link: u32,
+    call: Call<'static>,
+) -> Result<(), OutOfMemory> {
     events.push(Happening::Asks(call))?;
     put_arrivals(events, link, 1)
 }
 
 /// The opening of link 1, and `f` is made and opened.
-pub fn put_opened(alloc: Global, events: &mut Vec<Happening>) -> Result<(), OutOfMemory> {
+pub fn put_opened(alloc: Global, events: &mut Vec<Happening<'static>>) -> Result<(), OutOfMemory> {
     put_arrivals(events, 1, 3)?;
     put_call(events, 1, open_volume(alloc)?)?;
     put_call(events, 1, create_file(alloc)?)?;
@@ -92,10 +100,10 @@ pub fn put_opened(alloc: Global, events: &mut Vec<Happening>) -> Result<(), OutO
 /// The append reaches the server and runs; its reply is lost with its link, and the client goes on by the next one.
 pub fn put_broken_append(
     alloc: Global,
-    events: &mut Vec<Happening>,
+    events: &mut Vec<Happening<'static>>,
     loses: bool,
 ) -> Result<(), OutOfMemory> {
-    events.push(Happening::Asks(append(alloc)?))?;
+    events.push(Happening::Asks(append()))?;
     events.push(Happening::ToServer {
         link: 1,
         bytes: u32::MAX,

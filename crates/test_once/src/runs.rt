@@ -52,7 +52,7 @@ fn the_next_call_comes_behind_it(rt: HostRuntime) -> Result<(), OutOfMemory> {
     let mut events = Vec::new(alloc);
     put_opened(alloc, &mut events)?;
     put_broken_append(alloc, &mut events, true)?;
-    put_call(&mut events, 2, append(alloc)?)?;
+    put_call(&mut events, 2, append())?;
     let run = run(alloc, events.as_slice())?;
     assert_eq!(rt; last_of(&run), (5, b"\x00\x00\x00\x02".as_slice()));
     Ok(())
@@ -64,8 +64,8 @@ fn what_cannot_be_is_skipped(rt: HostRuntime) -> Result<(), OutOfMemory> {
     let alloc = rt.alloc();
     let mut events = Vec::new(alloc);
     put_opened(alloc, &mut events)?;
-    events.push(Happening::Asks(append(alloc)?))?;
-    events.push(Happening::Asks(append(alloc)?))?;
+    events.push(Happening::Asks(append()))?;
+    events.push(Happening::Asks(append()))?;
     events.push(Happening::Quiet {
         link: 0,
         now: moment(100),

@@ -10,7 +10,7 @@ ghost use Rattle.afp_serial.specs.declared.ask.Ask.TheVariants as asks_of;
 ghost use Rattle.afp_serial.specs.declared.ask.Outcome.TheVariants as outcomes;
 
 use afp_base::{LinkNumber, Moment};
-use afp_serial::{Ask, Teller, Told, entry_in_range};
+use afp_serial::{Answered, Ask, Teller, entry_in_range};
 
 /// A session that was opened.
 #[derive(Clone, Copy)]
@@ -74,7 +74,7 @@ impl Teller for OneSession {
       within = elim t.opened as (λ o. Rising 0 (map (λ s. 0) (option_to_list o)) (length (map (λ s. entry s.at s.link (asks_of.Open s.attention) outcomes.Done) (option_to_list o)))) [ None ↦ lit≤ tt | Some s ↦ (lit≤ tt, lit≤ tt) ];
     } };
 
-    fn ask(&mut self, now: Moment, link: LinkNumber, ask: Ask) -> Told {
+    fn ask(&mut self, now: Moment, link: LinkNumber, ask: Ask, _out: &mut [u8]) -> Answered {
         entry_in_range(now, link, &ask);
         self.asks = self.asks.saturating_add(1);
         match ask {
@@ -85,17 +85,17 @@ impl Teller for OneSession {
                         link,
                         attention,
                     });
-                    Told::Opened {
+                    Answered::Opened {
                         link: LinkNumber(1),
                     }
                 }
-                Some(_) => Told::Memory,
+                Some(_) => Answered::Memory,
             },
             Ask::Lost => {
                 self.lost = Some((now, link));
-                Told::Memory
+                Answered::Memory
             }
-            Ask::Call { .. } | Ask::Pulse | Ask::Bye | Ask::Drain => Told::Memory,
+            Ask::Call { .. } | Ask::Pulse | Ask::Bye | Ask::Drain => Answered::Memory,
         }
     }
 }

@@ -11,12 +11,13 @@ use afp_calls_grammar::Call;
 use afp_replies::{Reply, ReplyFault, read_reply};
 use client_script_parts::{Answer, Asker};
 use ghost_log::Log;
+use ghost_notes::Notes;
 use std::alloc::Global;
 
 /// Exchanges in the order in which they came, which only proofs read.
 #[derive(Drop)]
 pub struct Exchanges {
-    calls: Log<Call>,
+    calls: Notes<Call<'static>>,
     answers: Log<Answer>,
     ghost paired: { length calls.items ≡ length answers.items },
 }
@@ -27,7 +28,7 @@ impl Exchanges {
         ensures { zipped result.calls.items result.answers.items ≡ [] }
     {
         Exchanges {
-            calls: Log::new(),
+            calls: Notes::new(),
             answers: Log::new(),
         }
     }
