@@ -21,6 +21,7 @@ use afp_core_state::{OwnFork, State, done, refused};
 use afp_serial::{Outcome, Told};
 use deny_modes::ForkKey;
 use record_keeper::Keeper;
+use std::alloc::Global;
 use volume_keeper_commit::KeptVolume;
 use volume_keeper_commit::laws::lines_stop_at_characters;
 
@@ -128,6 +129,27 @@ fn read_bytes<K: Keeper>(
     read_line(kept, fork, span, out)
 }
 
+/// A block without bytes. For a read that stops at no character it has room for what the fork has of the span, so that it grows at no piece, where
+/// there is memory for that at once.
+fn block_for<K: Keeper>(
+    alloc: Global,
+    kept: &KeptVolume<K>,
+    fork: &ForkKey,
+    span: &ReadSpan,
+) -> Bytes
+    requires file { has_file kept.now.state.rows fork.now.node ≡ true }
+    ensures { result ≡ [] }
+{
+    if span.mask != 0 {
+        return Bytes::new(alloc);
+    }
+    let behind = kept
+        .fork_size(fork.node, fork.resource)
+        .saturating_sub(span.from);
+    let size = behind.min(u64::from(span.count)) as usize;
+    Bytes::with_room(alloc, size).unwrap_or(Bytes::new(alloc))
+}
+
 /// What is told of bytes that were read: EOFErr beside them where the end of the fork was met.
 fn told_read(
     met_end: Result<bool, OutOfMemory>,
@@ -202,8 +224,9 @@ fn read_span<K: Keeper>(
     if let Some(code) = read_refused(state, reference, &own, &span) {
         return Ok((refused(state.alloc, code), Outcome::Done));
     }
-    let mut block = Bytes::new(state.alloc);
-    let met_end = read_bytes(state.kept_at(own.index), &own.fork, &span, &mut block);
+    let kept = state.kept_at(own.index);
+    let mut block = block_for(state.alloc, kept, &own.fork, &span);
+    let met_end = read_bytes(kept, &own.fork, &span, &mut block);
     told_read(met_end, block)
 }
 

@@ -25,5 +25,5 @@ returns g c = λ call asked row_is goes is.
     let met = c.read_bytes-met_end in
     read-runs k c.args.session.0 call c.args.reference.0 asked row_is goes c.in-Some.own stands c.in-Some-span.span met.result met.new.out c.told_read.result (subst (IsSpanOf asked) c.in-Some-span.is is)
     (sym (c.read_refused.ensures stands.file.fork stands.reference_is stands.access_is) ∙ c.in_default-read_refused.is)
-    (read-of k c.args.session.0 c.args.reference.0 c.in-Some.own stands c.kept_at.result.now.state c.kept_at.ensures asked c.in-Some-span.span (subst (IsSpanOf asked) c.in-Some-span.is is) met.result met.new.out met.ensures)
+    (read-of k c.args.session.0 c.args.reference.0 c.in-Some.own stands c.kept_at-kept.result.now.state c.kept_at-kept.ensures asked c.in-Some-span.span (subst (IsSpanOf asked) c.in-Some-span.is is) met.result met.new.out met.ensures)
     c.told_read.ensures
