@@ -103,7 +103,7 @@ impl<K: Keeper> Core<K> {
     }
 
     /// Answers one ask; the block of a reply is put at the front of `out`. `Memory`: nothing has changed but there; that
-    /// answer is for `Open` and `Call` alone.
+    /// answer is for `Open` alone, and for a call whose link has a session that keeps no answer for it.
     pub fn turn(&mut self, now: Moment, link: LinkNumber, ask: Ask, out: &mut [u8]) -> Answered
         requires { tells_bytes ask ≡ true → payload_limit ≤ length out.old }
         ensures turn { TakesTurn self.old now link ask (told_of result out.new) self.new }

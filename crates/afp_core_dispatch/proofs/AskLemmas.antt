@@ -20,7 +20,7 @@ use Rattle.afp_serial.specs.declared.attachment.Attachment.TheVariants.{Detached
 use Rattle.afp_serial.specs.World.{session_at, with_session, without_session, World, Session}
 use Rattle.session_table.specs.Sessions.{IsAt}
 use Rattle.afp_core_state.specs.Running.{done}
-use Rattle.afp_core_dispatch.specs.Asks.{RunsAsk, takes_memory}
+use Rattle.afp_core_dispatch.specs.Asks.{RunsAsk, stands_already, takes_memory}
 use Rattle.afp_core_dispatch.specs.lemma.Asks.{RunsCall}
 use Rattle.afp_core_dispatch.specs.lemma.Fits.{AskFits, CallFits}
 use Rattle.afp_core_state.specs.KeptWorld.{KeptWorld}
@@ -108,7 +108,7 @@ pub call-at : (old new : KeptWorld) (link id : ℕ) (write : Bool) (offset : ℕ
     → asked ≡ ask.Call id write offset payload → RunsCall old link (request id write offset payload) result new → RunsAsk old link asked result new
 unfolding answer_at after_at committed_at
 call-at old new link id write offset payload asked (Ok r) is runs = subst (λ (a : Ask). RunsAsk old link a (Ok r) new) (sym is) runs
-call-at old new link id write offset payload asked (Err e) is runs = (ap takes_memory is, runs)
+call-at old new link id write offset payload asked (Err e) is runs = (record { takes = ap takes_memory is; new = ap (λ (a : Ask). stands_already old.world link a) is ∙ runs.0 }, runs.1)
 
 -- an ask by its name
 pub ask-as : (old new : KeptWorld) (link : ℕ) (asked of : Ask) (told : Told) → asked ≡ of → RunsAsk old link of (Ok (done told)) new → RunsAsk old link asked (Ok (done told)) new

@@ -34,6 +34,7 @@ use Rattle.afp_core_state.specs.lemma.KeptWorld.{table_in}
 use Rattle.afp_core_state.proofs.KeeperLemmas.{outcome-same}
 use Rattle.afp_core_state.proofs.SessionLemmas.{session_of-number}
 use Rattle.session_table.specs.Sessions.{HasNone, IsAt, session_of}
+use Rattle.afp_core_dispatch.specs.Asks.{stands_for}
 use Rattle.afp_core_dispatch.specs.lemma.Asks.{RunsCall}
 use Rattle.afp_core_dispatch.specs.lemma.Fits.{CallFits, HasRoom, HasRoomFor, VerdictFits}
 use Rattle.afp_core_dispatch.specs.lemma.Keeping.{IsThere, IsToldAgain, RunsBlock, RunsKept, keeps}
@@ -164,7 +165,7 @@ told-room k mid n q r room there fits came enough =
 pub call-fresh : (k new : KeptWorld) (link n : ℕ) (q : Request) (result : Result (Told × Outcome) OutOfMemory) → IsAt k.world.sessions link n → HasNone (table_in k.world) n q
     → RunsKept k n q result new → RunsCall k link q result new
 unfolding verdict
-call-fresh k new link n q (Err e) at fresh ran = ran
+call-fresh k new link n q (Err e) at fresh ran = (ap (λ (o : Option Session). stands_for o q) at.linked ∙ ap is_some (fresh at.session at.numbered), ran)
 call-fresh k new link n q (Ok r) at fresh ran =
     let w = k.world in
     let s = at.session in

@@ -20,7 +20,7 @@ use session_table::SessionFault;
 use std::marker::Model;
 
 /// Answers an ask; the block of a reply is put at the front of `out`. Without memory nothing changes but there; only `Open`
-/// and `Call` take some.
+/// and `Call` take some, and no call whose answer is kept, or whose link has no session.
 pub fn run_ask<K: Keeper>(
     state: &mut State<K>,
     now: Moment,

@@ -47,7 +47,7 @@ turn-says c d now link asked (Reply code block ends) sound t = entry-tells c d n
 turn-says c d now link asked (Live drain) sound t = entry-tells c d now link asked (Live drain) t.0 sound t.1
 turn-says c d now link asked Done sound t = entry-tells c d now link asked Done t.0 sound t.1
 turn-says c d now link asked Displaced sound t = entry-tells c d now link asked Displaced t.0 sound t.1
-turn-says c d now link asked Memory sound t = record { answers = memory-tells asked; size = refl; memory = λ _. t.may }
+turn-says c d now link asked Memory sound t = record { answers = memory-tells asked; size = refl; memory = λ _. t.lacks.takes }
 
 first-core : (a b : Option ServerState) (xs ys : List (ℕ × Option ServerState)) → (0, a) ∷ xs ≡ (0, b) ∷ ys → a ≡ b
 first-core a b xs ys e = let p : (0, a) ≡ (0, b) = cc in ap (λ (z : ℕ × Option ServerState). z.1) p

@@ -7,5 +7,5 @@ use Rattle.afp_core.specs.ServerState.{ServerState}
 use Rattle.afp_core.specs.Turn.{BecomesEntry, Refrains}
 
 abbrev pub Turns : ServerState → ℕ → LinkNumber → Ask → Option Told → ServerState → Type 0
-Turns c now link ask None d = Refrains c ask d
+Turns c now link ask None d = Refrains c link ask d
 Turns c now link ask (Some told) d = BecomesEntry c now link ask told d

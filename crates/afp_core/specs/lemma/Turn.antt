@@ -12,4 +12,4 @@ use Rattle.afp_core.specs.Turn.{Turned, Refrains}
 -- a turn with its outcome
 abbrev pub TakesStep : ServerState → ℕ → LinkNumber → Ask → Result (Told × Outcome) OutOfMemory → ServerState → Type 0
 TakesStep c now link ask (Ok r) d = Turned c (entry now link ask r.1) r.0 d
-TakesStep c now link ask (Err e) d = Refrains c ask d
+TakesStep c now link ask (Err e) d = Refrains c link ask d

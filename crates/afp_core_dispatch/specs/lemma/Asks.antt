@@ -1,5 +1,5 @@
 -- What the code and the proofs go by beside Asks; no public contract cites it.
-use Rattle.std.specs.Prelude.{◌≡◌, ℕ, List, Result, Ok, Err}
+use Rattle.std.specs.Prelude.{◌≡◌, ℕ, false, List, Result, Ok, Err}
 use Rattle.afp_base.specs.Cached.{Request}
 use Rattle.afp_base.specs.declared.bytes.OutOfMemory.{OutOfMemory}
 use Rattle.afp_core_state.specs.KeptWorld.{KeptWorld}
@@ -11,7 +11,7 @@ use Rattle.afp_serial.specs.declared.answered.Answered.{Answered}
 use Rattle.afp_serial.specs.declared.ask.Ask.TheVariants as ask
 use Rattle.afp_serial.specs.declared.ask.Outcome.{Outcome}
 use Rattle.afp_serial.specs.declared.ask.Told.{Told}
-use Rattle.afp_core_dispatch.specs.Asks.{RunsAsk}
+use Rattle.afp_core_dispatch.specs.Asks.{RunsAsk, stands_for}
 
 -- an Open, which is told no bytes
 abbrev pub RunsOpen : KeptWorld → Result Answered OutOfMemory → KeptWorld → Type 0
@@ -20,9 +20,9 @@ RunsOpen k (Err e) new = new ≡ k
 
 -- In both of these the world's latest moment is already the ask's.
 
--- a call on a link comes to its steps; or there is no memory, and nothing changes
+-- a call on a link comes to its steps; or there is no memory, where what it is told does not stand already, and nothing changes
 abbrev pub RunsCall : KeptWorld → ℕ → Request → Result (Told × Outcome) OutOfMemory → KeptWorld → Type 0
 RunsCall k link q (Ok r) new =
     IsOutcomeOf (told_call k.world (session_at k.world link) q r.1) (after_call k.world (session_at k.world link) q r.1)
     (committed_in k.world (session_at k.world link) q) r.1 r.0 k new
-RunsCall k link q (Err e) new = new ≡ k
+RunsCall k link q (Err e) new = (stands_for (session_at k.world link) q ≡ false) × (new ≡ k)
