@@ -16,3 +16,5 @@ mod requests;
 mod run;
 #[cfg(test)]
 mod side_by_side;
+#[cfg(test)]
+mod turns;
