@@ -1,6 +1,6 @@
 //! Lines, and what comes of them.
 use crate::many::{clear, fill, fill_each, found, listed, rename};
-use crate::volume::{add, admit, move_to, share};
+use crate::volume::{add, add_node, admit, move_to, share};
 use afp_base::{NodeId, OutOfMemory};
 use node_rows::{Marks, Node, Rows};
 use std::alloc::Global;
@@ -11,6 +11,7 @@ use test_lines::{AnswersLines, LineResult, kind_of, last_word, small_number_at, 
 enum Kind {
     New,
     Make,
+    File,
     Admit,
     Place,
     Mark,
@@ -26,6 +27,8 @@ enum Kind {
     Found,
     Child,
     Nth,
+    Files,
+    Dirs,
     Next,
     NodeAt,
     Keyed,
@@ -36,9 +39,10 @@ enum Kind {
 }
 
 /// The word of each kind.
-const KINDS: [(&str, Kind); 24] = [
+const KINDS: [(&str, Kind); 27] = [
     ("new", Kind::New),
     ("make", Kind::Make),
+    ("file", Kind::File),
     ("admit", Kind::Admit),
     ("place", Kind::Place),
     ("mark", Kind::Mark),
@@ -54,6 +58,8 @@ const KINDS: [(&str, Kind); 24] = [
     ("found", Kind::Found),
     ("child", Kind::Child),
     ("nth", Kind::Nth),
+    ("files", Kind::Files),
+    ("dirs", Kind::Dirs),
     ("next", Kind::Next),
     ("node_at", Kind::NodeAt),
     ("keyed", Kind::Keyed),
@@ -69,6 +75,7 @@ struct Line<'a> {
     kind: Kind,
     id: NodeId,
     number: u32,
+    skip: u32,
     text: &'a str,
 }
 
@@ -79,6 +86,7 @@ fn line_of<'a>(words: &[&'a str]) -> Option<Line<'a>> {
             kind,
             id: NodeId(small_number_at(words, 1)),
             number: small_number_at(words, 2),
+            skip: small_number_at(words, 3),
             text: last_word(words),
         }),
         None => None,
@@ -144,6 +152,15 @@ fn keyed(rows: &Rows, i: usize, key: &str) -> Option<NodeId> {
     }
 }
 
+/// The place of the file, or of the directory, behind so many others, from a place on.
+fn place_of(rows: &Rows, line: &Line<'_>, files: bool) -> Option<u64> {
+    let (from, skip) = (line.number as usize, line.skip as usize);
+    match rows.place_behind(line.id, files, from, skip) {
+        Some(place) => Some(place as u64),
+        None => None,
+    }
+}
+
 fn id_of(id: Option<NodeId>) -> Option<u64> {
     match id {
         Some(id) => Some(u64::from(id.0)),
@@ -157,6 +174,8 @@ fn asked(rows: &Rows, line: &Line<'_>) -> Option<u64> {
     match line.kind {
         Kind::Child => id_of(rows.child(line.id, line.text.as_bytes())),
         Kind::Nth => id_of(rows.nth(line.id, place)),
+        Kind::Files => place_of(rows, line, true),
+        Kind::Dirs => place_of(rows, line, false),
         Kind::Next => id_of(rows.next_id()),
         Kind::NodeAt => id_of(node_at(rows, line.id.0 as usize)),
         Kind::Keyed => id_of(keyed(rows, line.id.0 as usize, line.text)),
@@ -195,6 +214,7 @@ fn one(alloc: Global, rows: &mut Rows, line: &Line<'_>) -> Result<Option<NodeId>
     let (id, dir, name) = (line.id, NodeId(line.number), line.text);
     match line.kind {
         Kind::Make => add(alloc, rows, id, name),
+        Kind::File => add_node(alloc, rows, id, name, true),
         Kind::Admit => admit(alloc, rows, id, dir, name),
         Kind::Place => move_to(alloc, rows, id, dir, name),
         Kind::Mark => {
@@ -215,9 +235,9 @@ fn answer(alloc: Global, rows: &mut Rows, line: &Line<'_>) -> Result<Option<u64>
             *rows = share(alloc, line.id.0)?;
             Ok(Some(rows.count() as u64))
         }
-        Kind::Make | Kind::Admit | Kind::Place | Kind::Mark | Kind::Remove => Ok(id_of(one(
-            alloc, rows, line,
-        )?)),
+        Kind::Make | Kind::File | Kind::Admit | Kind::Place | Kind::Mark | Kind::Remove => Ok(id_of(
+            one(alloc, rows, line)?,
+        )),
         Kind::Fill | Kind::FillEach | Kind::Rename | Kind::Clear => Ok(Some(u64::from(many(
             alloc, rows, line,
         )?))),

@@ -33,6 +33,22 @@ fn node(id: NodeId, parent: NodeId, name: Name) -> Node
     }
 }
 
+/// A file of no attributes, or such a directory.
+fn file_or_directory(id: NodeId, parent: NodeId, name: Name, is_file: bool) -> Node
+    ensures id { result.id ≡ id.0 }
+    ensures parent { result.parent ≡ parent.0 }
+    ensures name { result.name ≡ name }
+{
+    let mut made = node(id, parent, name);
+    if is_file {
+        made.dir = false;
+        made.owner = 0;
+        made.group = 0;
+        made.rights = [0; 3];
+    }
+    made
+}
+
 /// A name, where the text is one.
 fn name_of(alloc: Global, text: &str) -> Option<Name> {
     match Name::new(alloc, text.as_bytes()) {
@@ -72,12 +88,23 @@ fn free_name(
     Ok(Some((name, key)))
 }
 
-/// Adds a node with the next id.
+/// Adds a directory with the next id.
 pub fn add(
     alloc: Global,
     rows: &mut Rows,
     dir: NodeId,
     text: &str,
+) -> Result<Option<NodeId>, OutOfMemory> {
+    add_node(alloc, rows, dir, text, false)
+}
+
+/// Adds a file with the next id, or a directory.
+pub fn add_node(
+    alloc: Global,
+    rows: &mut Rows,
+    dir: NodeId,
+    text: &str,
+    is_file: bool,
 ) -> Result<Option<NodeId>, OutOfMemory> {
     rows.reserve()?;
     let Some(id) = rows.next_id() else {
@@ -85,7 +112,7 @@ pub fn add(
     };
     match free_name(alloc, rows, dir, text)? {
         Some((name, key)) => {
-            rows.insert(node(id, dir, name), key);
+            rows.insert(file_or_directory(id, dir, name, is_file), key);
             Ok(Some(id))
         }
         None => Ok(None),
