@@ -250,7 +250,12 @@ fn joined(
 ) -> Result<Bytes, OutOfMemory>
     ensures { IfOk result (λ bytes. bytes ≡ front.now ++ zeros.now ++ part.now ++ behind.now) }
 {
-    let mut bytes = Bytes::new(alloc);
+    let size = front
+        .len()
+        .saturating_add(zeros.len())
+        .saturating_add(part.len())
+        .saturating_add(behind.len());
+    let mut bytes = Bytes::with_room(alloc, size)?;
     bytes.extend(front)?;
     bytes.extend(zeros)?;
     bytes.extend(part)?;

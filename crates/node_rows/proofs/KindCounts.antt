@@ -143,8 +143,6 @@ back less [] = refl
 back less (x ∷ xs) = let same : x + less - less ≡ x = omega arith in λ i. same i ∷ back less xs i
 
 -- what stands at a place is a file or none
-rise-is : (n : ℕ) (k : Bool) (ks : List Bool) → one_if k + n - (n + many true (take 0 (k ∷ ks))) ≡ one_if k
-rise-is n k ks = omega arith
 
 record IsRise (n : ℕ) (ks : List Bool) (place d : ℕ) : Type 0 where
   pub low : n + many true (take place ks) ≤ slice_index_or (running n ks) place d

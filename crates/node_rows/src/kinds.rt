@@ -76,21 +76,27 @@ impl Kinds {
     }
 }
 
-/// Adds to each number.
+/// Adds to each number. None is touched where nothing is added.
 fn raise(numbers: &mut [usize], more: usize)
     requires { list_all (fits_more more) numbers.old ≡ true }
     ensures { numbers.new ≡ map (raised more) numbers.old }
 {
+    if more == 0 {
+        return;
+    }
     for i in 0..numbers.len() {
         numbers[i] += more;
     }
 }
 
-/// Takes from each number.
+/// Takes from each number. None is touched where nothing is taken.
 fn lower(numbers: &mut [usize], less: usize)
     requires { list_all (is_at_least less) numbers.old ≡ true }
     ensures { numbers.new ≡ map (lowered less) numbers.old }
 {
+    if less == 0 {
+        return;
+    }
     for i in 0..numbers.len() {
         numbers[i] -= less;
     }

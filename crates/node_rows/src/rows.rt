@@ -75,7 +75,7 @@ impl Rows {
     }
 
     /// Nodes that stand by rising id, below the next id, and no two of which have one parent and names with one key. It takes the
-    /// time of one sort.
+    /// time of one sort, and looks each node up once.
     pub fn of(alloc: Global, nodes: Vec<Node>, next: u64) -> Result<Rows, OutOfMemory>
         requires rising { has_rising_ids nodes.items ≡ true }
         requires below { list_all (λ (row : Row). nat_lt row.id next) nodes.items ≡ true }
