@@ -15,7 +15,7 @@ use Rattle.volume_spec.specs.SoundVolume.{fork_bytes}
 use Rattle.volume_spec.specs.VolumeState.{Row, VolumeState}
 use Rattle.volume_spec.specs.Edits.{with_changed}
 use Rattle.volume_spec.specs.Walk.{row_at}
-use Rattle.volume_tree.proofs.FileForks.{found-id}
+use Rattle.volume_tree.proofs.KeptForks.{found-id}
 use Rattle.volume_tree.proofs.Showing.{found-shown, ids-differ}
 use Rattle.volume_tree.proofs.Writing.{FileThere, Written, file-there, before-within, written-kept, written-state}
 use Rattle.volume_tree.specs.Filled.{FitsFork, filled, filled_row}

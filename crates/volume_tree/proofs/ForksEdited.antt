@@ -23,7 +23,7 @@ use Rattle.volume_spec.specs.VolumeState.{Row, VolumeState}
 use Rattle.volume_spec.specs.Walk.{row_at}
 use Rattle.volume_tree.proofs.KeptEdits.{all-changed, gone-drawn, with-same}
 use Rattle.volume_tree.proofs.Edited.{row-node, spare-still}
-use Rattle.volume_tree.proofs.FileForks.{found-id, found-kept}
+use Rattle.volume_tree.proofs.KeptForks.{found-id, found-kept}
 use Rattle.volume_tree.proofs.Showing.{found-shown, ids-differ, missing-shown}
 use Rattle.volume_tree.proofs.Writing.{Written, written-state, written-kept}
 use Rattle.volume_tree.specs.Kept.{Forks, data_of, resource_of, with_forks, rows_of, state_of, spare_of}

@@ -10,7 +10,7 @@ pub mod KeptEdits
 pub mod Edited
 pub mod Paths
 pub mod Placing
-pub mod FileForks
+pub mod KeptForks
 pub mod Sums
 pub mod Writing
 pub mod ForksEdited

@@ -16,7 +16,7 @@ use Rattle.volume_spec.specs.SoundVolume.{IsSoundVolume, has_node, fork_bytes}
 use Rattle.volume_spec.specs.VolumeState.{Row}
 use Rattle.volume_spec.specs.Walk.{row_at}
 use Rattle.volume_tree.proofs.KeptEdits.{gone-drawn, all-modified}
-use Rattle.volume_tree.proofs.FileForks.{found-id, found-kept}
+use Rattle.volume_tree.proofs.KeptForks.{found-id, found-kept}
 use Rattle.volume_tree.proofs.Showing.{found-shown, missing-shown}
 use Rattle.volume_tree.specs.lemma.ForkEffect.{IsChanged, kept_fork}
 use Rattle.volume_tree.specs.Kept.{Forks, data_of, resource_of, with_forks, rows_of, state_of}

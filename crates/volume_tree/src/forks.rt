@@ -12,14 +12,14 @@ use std::alloc::Global;
 
 /// The two forks of a file (AFP Reference, "File forks").
 #[derive(Drop)]
-pub(crate) struct FileForks {
+pub struct FileForks {
     pub data_fork: Fork,
     pub resource_fork: Fork,
 }
 
 impl FileForks {
     /// Forks of no bytes. It takes no memory.
-    pub fn new(alloc: Global) -> FileForks
+    pub(crate) fn new(alloc: Global) -> FileForks
         ensures data_fork { result.data_fork ≡ [] }
         ensures resource_fork { result.resource_fork ≡ [] }
     {
@@ -45,7 +45,7 @@ impl FileForks {
 
 impl FileForks {
     /// Carries out a plan of the one fork or the other. It takes no memory.
-    pub fn change(&mut self, resource: bool, plan: ForkPlan)
+    pub(crate) fn change(&mut self, resource: bool, plan: ForkPlan)
         requires { (after : List ℕ) × IsForkPlan (if resource then self.old.resource_fork else self.old.data_fork) after plan }
         ensures { (after : List ℕ) → IsForkPlan (if resource then self.old.resource_fork else self.old.data_fork) after plan → self.new ≡ (record self.old { data_fork = (if resource then self.old.data_fork else after); resource_fork = (if resource then after else self.old.resource_fork) }) }
     {
@@ -59,7 +59,7 @@ impl FileForks {
 
 impl FileForks {
     /// The one fork or the other gets the bytes of a write of it as it is. It takes no memory.
-    pub fn write(&mut self, resource: bool, write: ForkWrite)
+    pub(crate) fn write(&mut self, resource: bool, write: ForkWrite)
         requires { write.before ≡ (if resource then self.old.resource_fork else self.old.data_fork) }
         ensures { self.new ≡ (record self.old { data_fork = (if resource then self.old.data_fork else write.after); resource_fork = (if resource then write.after else self.old.resource_fork) }) }
     {

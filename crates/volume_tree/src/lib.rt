@@ -23,6 +23,7 @@ mod volume;
 
 pub use after::NodeAfter;
 pub use asked::{DELETE_INHIBIT, RENAME_INHIBIT, is_busy};
+pub use forks::FileForks;
 pub use head::VolumeHead;
 pub use parts::{NewName, NodeWithForks};
 pub use places::{new_name, only_name, steps_are_named};

@@ -1,11 +1,12 @@
 //! Walking a path through the tree.
 ghost use Rattle.std.specs.Prelude.{◌≡◌, ◌≤◌, IfOk, length, take};
-ghost use Rattle.volume_spec.specs.Walk.{child, walk_from, walk, found};
+ghost use Rattle.afp_names.specs.Name.{name_key};
+ghost use Rattle.volume_spec.specs.Walk.{child, child_by_key, walk_from, walk, found};
 ghost use Rattle.volume_tree.specs.Answered.{Answers, IsFoundNode};
 
 use crate::volume::{ROOT_PARENT, Volume};
 use afp_base::{Code, NodeId, OutOfMemory};
-use afp_names::{LONG_NAMES, Name, Path, Step};
+use afp_names::{LONG_NAMES, LONGEST_NAME, Name, Path, Step};
 use std::alloc::Global;
 
 /// Why a call is refused, or that there was no memory.
@@ -107,6 +108,25 @@ impl Volume {
         Ok(here)
     }
 
+    /// The child of a directory that has this name. It takes memory only for a name with another character than those of ASCII.
+    fn child_named(
+        &self,
+        alloc: Global,
+        dir: NodeId,
+        name: &Name,
+    ) -> Result<Option<NodeId>, OutOfMemory>
+        ensures { IfOk result (λ found. IsFoundNode found (child_by_key self.now.state.rows dir.0 (name_key name.now))) }
+    {
+        let mut room = [0; LONGEST_NAME];
+        match name.ascii_key(&mut room) {
+            Some(len) => Ok(self.child(dir, &room[..len])),
+            None => {
+                let key = name.key(alloc)?;
+                Ok(self.child(dir, key.as_slice()))
+            }
+        }
+    }
+
     /// The child to which a step down leads: that with the name's key; where there is none and names are
     /// long names, that with the long name.
     #[tactic(auto, unfolding(volume_spec::specs::Walk::child))]
@@ -119,8 +139,7 @@ impl Volume {
     ) -> Result<Option<NodeId>, OutOfMemory>
         ensures { IfOk result (λ found. IsFoundNode found (child self.now.state.rows kind here.0 name.now)) }
     {
-        let key = name.key(alloc)?;
-        match self.child(here, key.as_slice()) {
+        match self.child_named(alloc, here, name)? {
             Some(id) => Ok(Some(id)),
             None => if kind == LONG_NAMES {
                 self.long_child(alloc, here, name)

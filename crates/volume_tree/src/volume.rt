@@ -1,5 +1,5 @@
 //! A volume's tree.
-ghost use Rattle.std.specs.Prelude.{◌≡◌, ◌≤◌, [], None, length, is_some, IfOk, OnOk, option_map, option_copied};
+ghost use Rattle.std.specs.Prelude.{◌≡◌, ◌≤◌, Bool, [], None, length, is_some, IfOk, OnOk, option_map, option_copied, if◌then◌else◌};
 ghost use Rattle.afp_names.specs.Name.{name_fault};
 ghost use Rattle.volume_spec.specs.DesktopLaws.{with_desktop};
 ghost use Rattle.volume_spec.specs.Edits.{bare, changed_at};
@@ -7,7 +7,8 @@ ghost use Rattle.volume_spec.specs.SoundVolume.{IsSoundVolume, fork_bytes};
 ghost use Rattle.volume_spec.specs.VolumeState.{fresh_volume};
 ghost use Rattle.volume_spec.specs.Walk.{row_at};
 ghost use Rattle.volume_spec.specs.OpenFork.{file_of};
-ghost use Rattle.volume_tree.specs.Shown.{fork_at};
+ghost use Rattle.volume_tree.specs.Shown.{IsNode, fork_at};
+ghost use Rattle.volume_tree.specs.declared.forks.FileForks.{FileForks as Kept};
 
 use crate::forks::{FileForks, keep};
 use crate::head::{Dates, VolumeHead};
@@ -150,6 +151,17 @@ impl Volume {
             }
             None => None,
         }
+    }
+
+    /// Both forks of a node of this volume, found by one look-up: those of a file; a directory has none.
+    pub fn forks(&self, node: &Node) -> Option<&FileForks>
+        requires { IsNode self.now.state.rows node.now }
+        ensures { (resource : Bool) → option_map (λ (forks : Kept). if resource then forks.resource_fork else forks.data_fork) (option_copied result) ≡ fork_at self.now.state.rows node.now.id resource }
+    {
+        if node.dir {
+            return None;
+        }
+        self.forks.get(u64::from(node.id.0))
     }
 
     /// A fork of the file of an id.
