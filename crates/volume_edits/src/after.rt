@@ -174,11 +174,14 @@ impl WholeVolume {
     {
         self.tree.keeps_sound();
         match self.tree.node(id) {
-            Some(node) => Some(WholeNode {
-                node: NodeAfter::of(node),
-                data_fork: ForkAfter::kept_or_none(self.tree.fork(id, false)),
-                resource_fork: ForkAfter::kept_or_none(self.tree.fork(id, true)),
-            }),
+            Some(node) => {
+                let forks = self.tree.forks(node);
+                Some(WholeNode {
+                    node: NodeAfter::of(node),
+                    data_fork: ForkAfter::kept_or_none(forks, false),
+                    resource_fork: ForkAfter::kept_or_none(forks, true),
+                })
+            }
             None => None,
         }
     }

@@ -1,9 +1,11 @@
 //! A fork as edits leave it.
-ghost use Rattle.std.specs.Prelude.{◌≡◌, [], length, unwrap_or};
+ghost use Rattle.std.specs.Prelude.{◌≡◌, [], length, option_map, unwrap_or, if◌then◌else◌};
 ghost use Rattle.std.specs.Option.{option_copied};
+ghost use Rattle.volume_tree.specs.declared.forks.FileForks.{FileForks as Kept};
 
 use fork_bytes::{Fork, ForkWrite};
 use std::marker::Model;
+use volume_tree::FileForks;
 
 /// Where the bytes of a fork stand.
 #[derive(Drop)]
@@ -36,12 +38,12 @@ impl<'a> ForkAfter<'a> {
         ForkAfter(Source::Kept { fork })
     }
 
-    /// A fork as it is, of no bytes where there is none.
-    pub(crate) fn kept_or_none(fork: Option<&'a Fork>) -> ForkAfter<'a>
-        ensures { result ≡ unwrap_or (option_copied fork.entry) [] }
+    /// The one fork or the other of a file as it is, of no bytes where there is none.
+    pub(crate) fn kept_or_none(forks: Option<&'a FileForks>, resource: bool) -> ForkAfter<'a>
+        ensures { result ≡ unwrap_or (option_map (λ (kept : Kept). if resource then kept.resource_fork else kept.data_fork) (option_copied forks.entry)) [] }
     {
-        match fork {
-            Some(fork) => ForkAfter::kept(fork),
+        match forks {
+            Some(forks) => ForkAfter::kept(forks.fork(resource)),
             None => ForkAfter(Source::Nowhere),
         }
     }

@@ -92,18 +92,14 @@ fn file_at<'a>(whole: &'a WholeVolume, id: NodeId) -> Option<CopiedFile<'a>>
         Some(node) => node,
         None => return None,
     };
-    let data_fork = match whole.tree.fork(id, false) {
-        Some(data_fork) => data_fork,
-        None => return None,
-    };
-    let resource_fork = match whole.tree.fork(id, true) {
-        Some(resource_fork) => resource_fork,
+    let forks = match whole.tree.forks(node) {
+        Some(forks) => forks,
         None => return None,
     };
     Some(CopiedFile {
         node,
-        data_fork,
-        resource_fork,
+        data_fork: forks.fork(false),
+        resource_fork: forks.fork(true),
     })
 }
 

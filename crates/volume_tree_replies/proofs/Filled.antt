@@ -18,7 +18,7 @@ use Rattle.volume_spec.specs.VolumeState.{Row, VolumeState}
 use Rattle.volume_spec.specs.Walk.{row_at}
 use Rattle.node_rows.specs.Children.{child_of}
 use Rattle.node_rows.specs.declared.child.Child.{Child}
-use Rattle.volume_tree_replies.specs.lemma.Told.{IsRowOf}
+use Rattle.volume_tree.specs.Shown.{IsRowOf}
 use Rattle.volume_tree_replies.specs.lemma.Filling.{IsPut, can_follow, front, bytes_of, counted_from, filled}
 
 -- the child at a place

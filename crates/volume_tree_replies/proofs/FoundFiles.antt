@@ -11,7 +11,7 @@ use Rattle.volume_spec.specs.OpenFork.{file_of, open_fork_file}
 use Rattle.volume_spec.specs.SoundVolume.{IsSoundVolume, has_file, has_node}
 use Rattle.volume_spec.specs.VolumeState.{Row, VolumeState}
 use Rattle.volume_spec.specs.Walk.{found, row_at}
-use Rattle.volume_tree_replies.specs.lemma.Told.{IsRowOf}
+use Rattle.volume_tree.specs.Shown.{IsRowOf}
 use Rattle.volume_tree.proofs.Showing.{ids-differ}
 use Rattle.afp_base.proofs.ListFacts.{find-passes}
 

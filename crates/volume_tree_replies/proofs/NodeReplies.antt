@@ -20,7 +20,7 @@ use Rattle.volume_spec.specs.NodeValues.{bits_of, dir_values, file_values, node_
 use Rattle.volume_spec.specs.SoundVolume.{IsSoundVolume, has_node}
 use Rattle.volume_spec.specs.VolumeState.{Row, VolumeState}
 use Rattle.volume_spec.specs.Walk.{found, has_directory, row_at}
-use Rattle.volume_tree_replies.specs.lemma.Told.{IsRowOf}
+use Rattle.volume_tree.specs.Shown.{IsRowOf}
 use Rattle.volume_spec.proofs.SeenRows.{test-found}
 use Rattle.volume_tree.proofs.Showing.{ids-differ}
 

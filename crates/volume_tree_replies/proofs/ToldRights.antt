@@ -9,7 +9,7 @@ use Rattle.volume_spec.specs.Rights.{rights_of}
 use Rattle.volume_spec.specs.SoundVolume.{IsSoundVolume, has_fit_privileges, is_formed}
 use Rattle.volume_spec.specs.VolumeState.{Privileges, Row, VolumeState, only_group}
 use Rattle.volume_spec.specs.Walk.{row_at}
-use Rattle.volume_tree_replies.specs.lemma.Told.{IsNode}
+use Rattle.volume_tree.specs.Shown.{IsNode}
 
 -- so are those that a user has of it
 pub rights-small : (p : Privileges) (user : ℕ) → has_fit_privileges true p ≡ true → rights_of p user < 2 ^ 3

@@ -10,8 +10,7 @@ ghost use Rattle.volume_spec.specs.Enumerate.{longest_entry};
 ghost use Rattle.volume_spec.specs.NodeValues.{bits_of, node_values};
 ghost use Rattle.volume_spec.specs.VolumeState.{Row};
 ghost use Rattle.volume_tree_replies.specs.lemma.Filling.{IsPut, can_follow};
-ghost use Rattle.volume_tree_replies.specs.lemma.Told.{IsNode, IsRowOf};
-ghost use Rattle.volume_tree.specs.Shown.{opened};
+ghost use Rattle.volume_tree.specs.Shown.{IsNode, IsRowOf, opened};
 
 use crate::list_asked::ListAsked;
 use crate::node::{is_dir, put_node};

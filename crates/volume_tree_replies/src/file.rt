@@ -1,12 +1,13 @@
 //! What is told of a file.
-ghost use Rattle.std.specs.Prelude.{◌≡◌, ◌++◌, ◌<◌, true, IfOk, OnOk, OnErr, length, nat_lt, if◌then◌else◌};
+ghost use Rattle.std.specs.Prelude.{◌≡◌, ◌++◌, ◌<◌, ◌^◌, Bool, true, IfOk, OnOk, OnErr, length, nat_lt, if◌then◌else◌};
+ghost use Rattle.std.specs.Option.{option_copied};
 ghost use Rattle.afp_bitmap.specs.Bits.{IsWithin, file_mask};
 ghost use Rattle.afp_bitmap.specs.Params.{params};
 ghost use Rattle.afp_bitmap.specs.declared.params.Values.TheVariants as told;
 ghost use Rattle.volume_spec.specs.NodeValues.{has_open_fork, told_attributes, file_values};
 ghost use Rattle.volume_spec.specs.Parms.{asked_or};
-ghost use Rattle.volume_tree_replies.specs.lemma.Told.{bytes_at, whole};
-ghost use Rattle.volume_tree.specs.Shown.{opened};
+ghost use Rattle.volume_tree_replies.specs.lemma.Told.{bytes_in, whole, with_these};
+ghost use Rattle.volume_tree.specs.Shown.{IsNode, opened};
 
 use crate::fields::{
     backup_or, created_or, finder_info_or, id_or, long_name_or, modified_or, parent_or,
@@ -17,7 +18,7 @@ use afp_bitmap::{FileValues, Values, is_asked, put_params};
 use deny_modes::VolumeOpens;
 use node_rows::Node;
 use std::alloc::Global;
-use volume_tree::Volume;
+use volume_tree::{FileForks, Volume};
 
 /// The attributes that tell of open forks (AFP Reference, "File attributes").
 const DATA_FORK_OPEN: u16 = 0x0008;
@@ -59,23 +60,24 @@ fn attributes_or(bits: u16, opens: &VolumeOpens<'_>, node: &Node) -> u16
 }
 
 /// How many bytes a fork of a file has.
-fn fork_length(volume: &Volume, id: NodeId, resource: bool) -> u32
-    ensures { result ≡ length (bytes_at volume.now.state.rows id.0 resource) }
+fn fork_length(forks: Option<&FileForks>, resource: bool) -> u32
+    requires { length (bytes_in (option_copied forks) resource) < 2 ^ 32 }
+    ensures { result ≡ length (bytes_in (option_copied forks.entry) resource) }
 {
-    volume.keeps_sound();
-    match volume.fork(id, resource) {
-        Some(fork) => fork.len() as u32,
+    match forks {
+        Some(forks) => forks.fork(resource).len() as u32,
         None => 0,
     }
 }
 
 /// How many bytes a fork of a file has, where that is asked.
-fn length_or(bits: u16, bit: u32, volume: &Volume, node: &Node, resource: bool) -> u32
-    requires { nat_lt bit 16 ≡ true }
-    ensures { result ≡ asked_or bits bit 0 (length (bytes_at volume.now.state.rows node.now.id resource)) }
+fn length_or(bits: u16, bit: u32, forks: Option<&FileForks>, resource: bool) -> u32
+    requires bit { nat_lt bit 16 ≡ true }
+    requires small { length (bytes_in (option_copied forks) resource) < 2 ^ 32 }
+    ensures { result ≡ asked_or bits bit 0 (length (bytes_in (option_copied forks.entry) resource)) }
 {
     if is_asked(bits, bit) {
-        fork_length(volume, node.id, resource)
+        fork_length(forks, resource)
     } else {
         0
     }
@@ -85,12 +87,13 @@ fn length_or(bits: u16, bit: u32, volume: &Volume, node: &Node, resource: bool) 
 #[tactic(auto, unfolding(volume_spec::specs::NodeValues::file_values))]
 fn file_values(
     alloc: Global,
-    volume: &Volume,
+    forks: Option<&FileForks>,
     opens: &VolumeOpens<'_>,
     node: &Node,
     bits: u16,
 ) -> Result<FileValues, OutOfMemory>
-    ensures values { IfOk result (λ values. values ≡ file_values (opened opens.now) bits (whole volume.now.state.rows node.now)) }
+    requires { (resource : Bool) → length (bytes_in (option_copied forks) resource) < 2 ^ 32 }
+    ensures values { IfOk result (λ values. values ≡ file_values (opened opens.now) bits (with_these (option_copied forks.entry) node.now)) }
     ensures long_name { IfOk result (λ values. length values.long_name < 256) }
     ensures utf8_name { IfOk result (λ values. length values.utf8_name < 256) }
 {
@@ -105,11 +108,11 @@ fn file_values(
         finder: finder_info_or(bits, node),
         long_name,
         id: id_or(bits, node),
-        data_length: length_or(bits, 9, volume, node, false),
-        resource_length: length_or(bits, 10, volume, node, true),
-        ext_data_length: u64::from(length_or(bits, 11, volume, node, false)),
+        data_length: length_or(bits, 9, forks, false),
+        resource_length: length_or(bits, 10, forks, true),
+        ext_data_length: u64::from(length_or(bits, 11, forks, false)),
         utf8_name,
-        ext_resource_length: u64::from(length_or(bits, 14, volume, node, true)),
+        ext_resource_length: u64::from(length_or(bits, 14, forks, true)),
     })
 }
 
@@ -122,10 +125,13 @@ pub(crate) fn put_file(
     bits: u16,
     out: &mut Bytes,
 ) -> Result<(), OutOfMemory>
-    requires { IsWithin file_mask bits }
+    requires bits { IsWithin file_mask bits }
+    requires node { IsNode volume.now.state.rows node.now }
     ensures ok { OnOk result (out.new ≡ out.old ++ params bits (told.File (file_values (opened opens.now) bits (whole volume.now.state.rows node.now)))) }
     ensures err { OnErr result (out.new ≡ out.old) }
 {
-    let values = file_values(alloc, volume, opens, node, bits)?;
+    volume.keeps_sound();
+    let forks = volume.forks(node);
+    let values = file_values(alloc, forks, opens, node, bits)?;
     put_params(bits, &Values::File(values), out)
 }

@@ -132,12 +132,12 @@ fn fill(
     let mut count = 0;
     let mut i = first;
     while i < siblings.len() {
+        if count == most {
+            return Ok(count);
+        }
         let child = &siblings[i];
         let node = node_at(volume, child.id);
         if is_counted(asked, node) {
-            if count == most {
-                return Ok(count);
-            }
             match put_entry(alloc, volume, opens, asked, node, used, out) {
                 Ok(Some(more)) => {
                     used = more;

@@ -6,8 +6,7 @@ ghost use Rattle.volume_spec.specs.NodeValues.{bits_of, node_values};
 ghost use Rattle.volume_spec.specs.SoundVolume.{has_node};
 ghost use Rattle.volume_spec.specs.VolumeState.{Row};
 ghost use Rattle.volume_spec.specs.Walk.{row_at};
-ghost use Rattle.volume_tree_replies.specs.lemma.Told.{IsNode, IsRowOf};
-ghost use Rattle.volume_tree.specs.Shown.{opened};
+ghost use Rattle.volume_tree.specs.Shown.{IsNode, IsRowOf, opened};
 
 use crate::directory::put_dir;
 use crate::file::put_file;

@@ -12,9 +12,8 @@ ghost use Rattle.volume_spec.specs.OpenDir.{open_dir_refusal, open_dir_id};
 ghost use Rattle.volume_spec.specs.SoundVolume.{has_node};
 ghost use Rattle.volume_spec.specs.VolumeState.{Row};
 ghost use Rattle.volume_spec.specs.Walk.{has_directory};
-ghost use Rattle.volume_tree_replies.specs.lemma.Told.{IsNode, IsRowOf};
 ghost use Rattle.volume_tree.specs.Answered.{Refuses};
-ghost use Rattle.volume_tree.specs.Shown.{opened};
+ghost use Rattle.volume_tree.specs.Shown.{IsNode, IsRowOf, opened};
 
 use crate::node::{is_dir, node_at, put_node};
 use crate::volume::volume_params;

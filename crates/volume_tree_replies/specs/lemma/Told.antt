@@ -1,9 +1,8 @@
 -- A node and its row, for private contracts (this profile).
-use Rattle.std.specs.Prelude.{◌≡◌, ℕ, Bool, true, false, List, [], Some, unwrap_or}
-use Rattle.volume_spec.specs.Edits.{bare}
+use Rattle.std.specs.Prelude.{ℕ, Bool, true, false, List, [], Option, option_map, unwrap_or, if◌then◌else◌}
 use Rattle.volume_spec.specs.VolumeState.{Row}
-use Rattle.volume_spec.specs.Walk.{row_at}
 use Rattle.volume_tree.specs.Shown.{fork_at}
+use Rattle.volume_tree.specs.declared.forks.FileForks.{FileForks}
 
 -- the bytes of a fork of a file, and none of another node
 unfoldable pub bytes_at : List Row → ℕ → Bool → List ℕ
@@ -13,11 +12,10 @@ bytes_at rows id resource = unwrap_or (fork_at rows id resource) []
 abbrev pub whole : List Row → Row → Row
 whole rows node = record node { data_fork = bytes_at rows node.id false; resource_fork = bytes_at rows node.id true }
 
--- the row of a node that is given without its forks
-pub record IsRowOf (rows : List Row) (node row : Row) : Type 0 where
-  pub found : row_at rows node.id ≡ Some row
-  pub shown : node ≡ bare row
+-- the bytes of a fork of a file, where its forks are given, and none where none are
+abbrev pub bytes_in : Option FileForks → Bool → List ℕ
+bytes_in forks resource = unwrap_or (option_map (λ (kept : FileForks). if resource then kept.resource_fork else kept.data_fork) forks) []
 
--- a node of these rows, given without its forks
-abbrev pub IsNode : List Row → Row → Type 0
-IsNode rows node = (row : Row) × IsRowOf rows node row
+-- a node that is given without its forks, with these
+abbrev pub with_these : Option FileForks → Row → Row
+with_these forks node = record node { data_fork = bytes_in forks false; resource_fork = bytes_in forks true }

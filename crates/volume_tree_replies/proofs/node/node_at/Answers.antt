@@ -1,6 +1,6 @@
 use Rattle.std.proofs.Common.{◌∙◌, ap, sym}
 use Rattle.std.specs.Option.{option_copied}
-use Rattle.volume_tree_replies.proofs.Nodes.{row-of}
+use Rattle.volume_tree.proofs.KeptForks.{row-of}
 use Rattle.volume_tree_replies.proofs.node.node_at.Goals as goal
 use Rattle.volume_tree.proofs.Placing.{never-missing}
 
