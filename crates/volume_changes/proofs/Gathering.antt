@@ -5,8 +5,7 @@ use Rattle.std.specs.FinMap.{get}
 use Rattle.std.specs.List.{list_all}
 use Rattle.std.proofs.lemmas.List.{take_more}
 use Rattle.afp_base.proofs.ListFacts.{all-snoc}
-use Rattle.volume_keeper_records.specs.declared.rows.Head.{Head}
-use Rattle.volume_keeper_records.specs.Records.{appl_record_key, comment_record_key, head_key, head_record, icon_tag, node_key}
+use Rattle.volume_keeper_records.specs.Records.{appl_record_key, comment_record_key, head_key, icon_tag, node_key}
 use Rattle.volume_changes.specs.declared.touched.ForkPlace.{ForkPlace}
 use Rattle.volume_changes.specs.declared.touched.Mapping.{Mapping}
 use Rattle.volume_changes.specs.Touched.{Touched, fork_keys, keys_of}
@@ -71,11 +70,6 @@ next-keys keys xs i m n before now next d h a b =
 -- a test of one element more
 pub all-take : {A : Type 0} (test : A → Bool) (xs : List A) (i : ℕ) (d : A) → i < length xs → list_all test (take i xs) ≡ true → test (get_or xs i d) ≡ true → list_all test (take (i + 1) xs) ≡ true
 all-take test xs i d h all one = ap (list_all test) (take_more xs i d h) ∙ all-snoc test (take i xs) (get_or xs i d) all one
-
--- a head's record stands under the head's key
-pub head-key : (head : Head) → (head_record head).key ≡ head_key
-unfolding head_record
-head-key head = refl
 
 -- so many of a list are all of it
 pub whole-list : {A : Type 0} (xs : List A) (i : ℕ) → length xs ≤ i → take i xs ≡ xs

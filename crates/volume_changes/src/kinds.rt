@@ -13,9 +13,9 @@ use crate::noting::{appl_value, change_blocks, note};
 use crate::touched::{ForkPlace, Mapping, four_bytes};
 use crate::transition::Transition;
 use afp_base::OutOfMemory;
-use record_keeper::{Change, Record};
+use record_keeper::Change;
 use std::alloc::Global;
-use volume_keeper_records::{appl_key, comment_key, head_record, icon_key, node_key};
+use volume_keeper_records::{appl_key, comment_key, head_key, head_value, icon_key, node_key};
 
 /// The change of the head's record.
 pub(crate) fn change_head<S: Transition>(
@@ -28,10 +28,10 @@ pub(crate) fn change_head<S: Transition>(
     ensures { OnOk result (changes.new.items ≡ changes.old.items ++ differences (records.head_key ∷ []) (kept_image (S.before step.now)) (kept_image (S.after step.now))) }
 {
     records_are_found();
-    let old = head_record(alloc, &step.head_before())?;
-    let new = head_record(alloc, &step.head_after())?;
-    let Record { key, value } = new;
-    note(changes, key, Some(old.value), Some(value))
+    let old = head_value(alloc, &step.head_before())?;
+    let new = head_value(alloc, &step.head_after())?;
+    let key = head_key(alloc)?;
+    note(changes, key, Some(old), Some(new))
 }
 
 /// The change of a node's record.

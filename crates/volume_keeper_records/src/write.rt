@@ -1,6 +1,6 @@
 //! The record of a row.
 ghost use Rattle.std.specs.Prelude.{◌≡◌, ◌∷◌, ◌++◌, [], IfOk, OnOk};
-ghost use Rattle.volume_keeper_records.specs.Records.{head_record as the_head, node_record as the_node, block_record as the_block, comment_record as the_comment, icon_record as the_icon, appl_record as the_appl, node_key as the_node_key, block_key as the_block_key, comment_record_key as the_comment_key, appl_record_key as the_appl_key, record_of as the_record, icon_tag, flag_byte, privilege_bytes, word_bytes, long_bytes, quad_bytes, date_bytes};
+ghost use Rattle.volume_keeper_records.specs.Records.{head_record as the_head, node_record as the_node, block_record as the_block, comment_record as the_comment, icon_record as the_icon, appl_record as the_appl, head_key as the_head_key, node_key as the_node_key, block_key as the_block_key, comment_record_key as the_comment_key, appl_record_key as the_appl_key, record_of as the_record, icon_tag, flag_byte, privilege_bytes, word_bytes, long_bytes, quad_bytes, date_bytes};
 
 use crate::limits::{APPL, BLOCK, COMMENT, HEAD, ICON, NODE};
 use crate::rows::{Appl, Comment, ForkBlock, Head, Icon, Node, Privileges, TableRow};
@@ -98,19 +98,35 @@ pub fn appl_key(alloc: Global, creator: &[u8; 4], node: u32) -> Result<RecordKey
     Ok(RecordKey::new(key))
 }
 
-/// The record of a volume's head.
-#[tactic(auto, unfolding(crate::specs::Records::head_record))]
-pub fn head_record(alloc: Global, head: &Head) -> Result<Record, OutOfMemory>
-    ensures { IfOk result (λ r. r ≡ the_head head.now) }
+/// The key of the head's record.
+pub fn head_key(alloc: Global) -> Result<RecordKey, OutOfMemory>
+    ensures { IfOk result (λ key. key ≡ the_head_key) }
 {
     let key = Bytes::of(alloc, &[HEAD])?;
+    Ok(RecordKey::new(key))
+}
+
+/// The value of the record of a volume's head.
+#[tactic(auto, unfolding(crate::specs::Records::head_record))]
+pub fn head_value(alloc: Global, head: &Head) -> Result<Bytes, OutOfMemory>
+    ensures { IfOk result (λ value. value ≡ (the_head head.now).value) }
+{
     let mut value = Bytes::with_room(alloc, HEAD_VALUE)?;
     value.push_u16(head.version)?;
     value.push_u32(head.created.cast_unsigned())?;
     value.push_u32(head.modified.cast_unsigned())?;
     value.push_u32(head.backup.cast_unsigned())?;
     value.push_u64(head.next_id)?;
-    let key = RecordKey::new(key);
+    Ok(value)
+}
+
+/// The record of a volume's head.
+#[tactic(auto, unfolding(crate::specs::Records::head_record))]
+pub fn head_record(alloc: Global, head: &Head) -> Result<Record, OutOfMemory>
+    ensures { IfOk result (λ r. r ≡ the_head head.now) }
+{
+    let key = head_key(alloc)?;
+    let value = head_value(alloc, head)?;
     Ok(Record { key, value })
 }
 
