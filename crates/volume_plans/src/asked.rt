@@ -8,13 +8,6 @@ use afp_base::NodeId;
 use volume_edits::{WholeNode, WholeVolume};
 use volume_spec::limits::{MOST_APPLS, MOST_ICONS};
 
-/// Whether a node is a file.
-fn is_file_node(node: &WholeNode<'_>) -> bool
-    ensures { result ≡ not node.now.dir }
-{
-    !node.node.dir
-}
-
 /// Whether a node is a file that is filed.
 fn is_filed_node(node: &WholeNode<'_>) -> bool
     ensures { result ≡ (not node.now.dir && node.now.filed) }
@@ -26,11 +19,7 @@ fn is_filed_node(node: &WholeNode<'_>) -> bool
 pub(crate) fn is_file(whole: &WholeVolume, id: NodeId) -> bool
     ensures { result ≡ has_file whole.now.state.rows id.0 }
 {
-    whole.keeps_sound();
-    match whole.node_before(id) {
-        Some(node) => is_file_node(&node),
-        None => false,
-    }
+    whole.tree.is_file(id)
 }
 
 /// Whether an id is that of a file that is filed.

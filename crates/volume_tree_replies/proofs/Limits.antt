@@ -1,11 +1,15 @@
 -- The bytes of forks keep their limits.
-use Rattle.std.proofs.Common.{◌≡◌, ◌∙◌, ◌==◌, ap, refl, ℕ, ◌≤◌, ◌<◌, ◌^◌, Bool, true, false, cond, List, [], length, Option, Some, None, arith}
+use Rattle.std.proofs.Common.{◌≡◌, ◌∙◌, ◌==◌, ◌||◌, ap, sym, refl, ℕ, ◌≤◌, ◌<◌, ◌^◌, Bool, true, false, cond, List, [], length, Option, Some, None, arith}
 use Rattle.volume_spec.specs.ForkEffect.{fork_of}
 use Rattle.std.specs.Prelude.{option_map, unwrap_or, if◌then◌else◌}
 use Rattle.std.specs.List.{find}
-use Rattle.std.proofs.lemmas.Bool.{cond_both}
+use Rattle.std.proofs.lemmas.Bool.{cond_both, cond-false}
 use Rattle.volume_spec.proofs.Formed.{LimitParts, limit-parts}
+use Rattle.afp_bitmap.specs.Bits.{is_asked}
 use Rattle.volume_spec.specs.Edits.{bare}
+use Rattle.volume_spec.specs.NodeValues.{file_values, told_attributes}
+use Rattle.volume_spec.specs.Parms.{asked_or}
+use Rattle.volume_spec.specs.Shared.{Opened}
 use Rattle.afp_base.specs.Limits.{most_fork_bytes}
 use Rattle.volume_spec.specs.SoundVolume.{IsSoundVolume, fork_bytes, row_bytes}
 use Rattle.volume_spec.specs.VolumeState.{Row, VolumeState}
@@ -50,6 +54,30 @@ pub with-whole : (rows : List Row) (node : Row) (forks : Option FileForks) → (
 unfolding bytes_at
 with-whole rows node forks are =
     (λ i. record node { data_fork = unwrap_or (are false i) []; resource_fork = unwrap_or (are true i) [] })
+
+-- where no length is asked it does not count which they are
+none-of : (a b : Bool) → (a || b) ≡ false → (a ≡ false) × (b ≡ false)
+none-of true b none = absurd (cc)
+none-of false b none = (refl, none)
+
+unasked : (bits bit n m : ℕ) → is_asked bits bit ≡ false → asked_or bits bit 0 n ≡ asked_or bits bit 0 m
+unasked bits bit n m none = cond-false (is_asked bits bit) n 0 none ∙ sym (cond-false (is_asked bits bit) m 0 none)
+
+pub not-told : (opens : List Opened) (bits : ℕ) (rows : List Row) (node : Row) (forks : Option FileForks) → ((is_asked bits 9 || is_asked bits 10) || (is_asked bits 11 || is_asked bits 14)) ≡ false
+    → file_values opens bits (with_these forks node) ≡ file_values opens bits (whole rows node)
+unfolding file_values told_attributes
+not-told opens bits rows node forks none =
+    let two = none-of (is_asked bits 9 || is_asked bits 10) (is_asked bits 11 || is_asked bits 14) none in
+    let front = none-of (is_asked bits 9) (is_asked bits 10) two.0 in
+    let behind = none-of (is_asked bits 11) (is_asked bits 14) two.1 in
+    let first : ℕ = length (bytes_in forks false) in
+    let other : ℕ = length (bytes_in forks true) in
+    λ i. record (file_values opens bits node) {
+      data_length = unasked bits 9 first (length (bytes_at rows node.id false)) front.0 i;
+      resource_length = unasked bits 10 other (length (bytes_at rows node.id true)) front.1 i;
+      ext_data_length = unasked bits 11 first (length (bytes_at rows node.id false)) behind.0 i;
+      ext_resource_length = unasked bits 14 other (length (bytes_at rows node.id true)) behind.1 i;
+    }
 
 -- a file that was found has these forks
 pub whole-is : (rows : List Row) (node row : Row) → row_at rows node.id ≡ Some row → node ≡ bare row → row.dir ≡ false → whole rows node ≡ row

@@ -1,11 +1,12 @@
 //! What is told of a file.
-ghost use Rattle.std.specs.Prelude.{◌≡◌, ◌++◌, ◌<◌, ◌^◌, Bool, true, IfOk, OnOk, OnErr, length, nat_lt, if◌then◌else◌};
+ghost use Rattle.std.specs.Prelude.{◌≡◌, ◌++◌, ◌<◌, ◌^◌, ◌||◌, Bool, List, true, IfOk, OnOk, OnErr, length, nat_lt, if◌then◌else◌};
 ghost use Rattle.std.specs.Option.{option_copied};
-ghost use Rattle.afp_bitmap.specs.Bits.{IsWithin, file_mask};
+ghost use Rattle.afp_bitmap.specs.Bits.{IsWithin, file_mask, is_asked};
 ghost use Rattle.afp_bitmap.specs.Params.{params};
 ghost use Rattle.afp_bitmap.specs.declared.params.Values.TheVariants as told;
 ghost use Rattle.volume_spec.specs.NodeValues.{has_open_fork, told_attributes, file_values};
 ghost use Rattle.volume_spec.specs.Parms.{asked_or};
+ghost use Rattle.volume_spec.specs.Shared.{Opened};
 ghost use Rattle.volume_tree_replies.specs.lemma.Told.{bytes_in, whole, with_these};
 ghost use Rattle.volume_tree.specs.Shown.{IsNode, opened};
 
@@ -56,6 +57,27 @@ fn attributes_or(bits: u16, opens: &VolumeOpens<'_>, node: &Node) -> u16
         told_attributes(opens, node)
     } else {
         0
+    }
+}
+
+/// Whether the length of a fork is asked.
+fn asks_length(bits: u16) -> bool
+    ensures { result ≡ (is_asked bits 9 || is_asked bits 10) || (is_asked bits 11 || is_asked bits 14) }
+{
+    (is_asked(bits, 9) || is_asked(bits, 10)) || (is_asked(bits, 11) || is_asked(bits, 14))
+}
+
+/// The forks of a file whose lengths are told, found by one look-up, where any is asked.
+fn asked_forks<'a>(volume: &'a Volume, node: &Node, bits: u16) -> Option<&'a FileForks>
+    requires { IsNode volume.now.state.rows node.now }
+    ensures small { (resource : Bool) → length (bytes_in (option_copied result) resource) < 2 ^ 32 }
+    ensures values { (opens : List Opened) → file_values opens bits (with_these (option_copied result) node.now) ≡ file_values opens bits (whole volume.now.state.rows node.now) }
+{
+    volume.keeps_sound();
+    if asks_length(bits) {
+        volume.forks(node)
+    } else {
+        None
     }
 }
 
@@ -130,8 +152,7 @@ pub(crate) fn put_file(
     ensures ok { OnOk result (out.new ≡ out.old ++ params bits (told.File (file_values (opened opens.now) bits (whole volume.now.state.rows node.now)))) }
     ensures err { OnErr result (out.new ≡ out.old) }
 {
-    volume.keeps_sound();
-    let forks = volume.forks(node);
+    let forks = asked_forks(volume, node, bits);
     let values = file_values(alloc, forks, opens, node, bits)?;
     put_params(bits, &Values::File(values), out)
 }

@@ -12,15 +12,15 @@ use Rattle.volume_tree.specs.Shown.{opened}
 use Rattle.volume_tree_replies.proofs.file.put_file.Goals as goal
 
 pub file_values-requires : goal.file_values-requires
-file_values-requires c resource = forks-small c.args.volume.now.state c.args.node.now.id resource (option_copied c.forks-forks.result) c.keeps_sound.ensures (c.forks-forks.ensures resource)
+file_values-requires c = c.asked_forks-forks.ensures.small
 
 pub put_params-requires-clause-fits : goal.put_params-requires-clause-fits
 put_params-requires-clause-fits c =
-    file-fits (opened c.args.opens.now) c.args.bits (with_these (option_copied c.forks-forks.result) c.args.node.now) c.in_ok-values.values c.in_ok-values.ensures.values c.in_ok-values.ensures.long_name c.in_ok-values.ensures.utf8_name
+    file-fits (opened c.args.opens.now) c.args.bits (with_these (option_copied c.asked_forks-forks.result) c.args.node.now) c.in_ok-values.values c.in_ok-values.ensures.values c.in_ok-values.ensures.long_name c.in_ok-values.ensures.utf8_name
 
 pub returns-clause-ok : goal.returns-clause-ok
 returns-clause-ok c =
     on-ok c.put_params.result c.put_params.ensures.ok (λ is.
     is
     ∙ ap (λ values. c.args.out.now ++ params c.args.bits (File values))
-    (c.in_ok-values.ensures.values ∙ ap (λ (row : Row). file_values (opened c.args.opens.now) c.args.bits row) (with-whole c.args.volume.now.state.rows c.args.node.now (option_copied c.forks-forks.result) c.forks-forks.ensures)))
+    (c.in_ok-values.ensures.values ∙ c.asked_forks-forks.ensures.values (opened c.args.opens.now)))
