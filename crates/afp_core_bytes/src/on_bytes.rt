@@ -39,19 +39,15 @@ fn place(offset: i64) -> Option<u64>
     }
 }
 
-/// Where a write or a lock starts in a fork of so many bytes: `None` before its first byte.
-pub(crate) fn start_in(len: u64, from_end: bool, offset: i64) -> Option<u64>
+/// A place that is counted from the end of a fork of so many bytes: `None` before its first byte.
+fn place_behind(len: u64, offset: i64) -> Option<u64>
     requires { len ≤ most_fork_bytes }
-    ensures { (bytes : List ℕ) → length bytes ≡ len → IsPlace (start_in bytes from_end offset) result }
+    ensures { (bytes : List ℕ) → length bytes ≡ len → IsPlace (start_in bytes true offset) result }
 {
-    if from_end {
-        len.checked_add_signed(offset)
-    } else {
-        place(offset)
-    }
+    len.checked_add_signed(offset)
 }
 
-/// The same in a fork of a file.
+/// Where a write or a lock starts in a fork of a file: `None` before its first byte. The fork is looked for only where its length counts.
 pub(crate) fn start_on<K: Keeper>(
     kept: &KeptVolume<K>,
     fork: &ForkKey,
@@ -62,8 +58,12 @@ pub(crate) fn start_on<K: Keeper>(
     ensures place { (file : Row) → row_at kept.now.state.rows fork.now.node ≡ Some file → IsPlace (start_in (fork_of fork.now.resource file) from_end offset) result }
     ensures few { (file : Row) → row_at kept.now.state.rows fork.now.node ≡ Some file → IsFew (fork_of fork.now.resource file) }
 {
-    let len = kept.fork_size(fork.node, fork.resource);
-    start_in(len, from_end, offset)
+    kept.keeps_few();
+    if from_end {
+        place_behind(kept.fork_size(fork.node, fork.resource), offset)
+    } else {
+        place(offset)
+    }
 }
 
 /// A number as a reply of 4 or of 8 bytes, where it has room for it.

@@ -59,6 +59,7 @@ fn most_read(count: u64) -> u32
 
 /// Reads the bytes of a fork into a block that has none. Whether there were fewer.
 fn read_all<K: Keeper>(
+    alloc: Global,
     kept: &KeptVolume<K>,
     fork: &ForkKey,
     from: u64,
@@ -70,9 +71,7 @@ fn read_all<K: Keeper>(
     ensures fewer { IfOk result (λ fewer. fewer ≡ nat_lt (length out.new) count) }
     ensures bytes { OnOk result ((file : Row) → row_at kept.now.state.rows fork.now.node ≡ Some file → out.new ≡ taken (fork_of fork.now.resource file) from count) }
 {
-    let Ok(()) = kept.read_fork(fork.node, fork.resource, from, count, out) else {
-        return Err(OutOfMemory);
-    };
+    *out = kept.read_fork(alloc, fork.node, fork.resource, from, count)?;
     Ok(is_shorter(out, count))
 }
 
@@ -112,6 +111,7 @@ fn read_line<K: Keeper>(
 
 /// Reads what is asked of a fork into a block that has no bytes. Whether the end of the fork was met.
 fn read_bytes<K: Keeper>(
+    alloc: Global,
     kept: &KeptVolume<K>,
     fork: &ForkKey,
     span: &ReadSpan,
@@ -124,30 +124,9 @@ fn read_bytes<K: Keeper>(
 {
     lines_stop_at_characters();
     if span.mask == 0 {
-        return read_all(kept, fork, span.from, span.count, out);
+        return read_all(alloc, kept, fork, span.from, span.count, out);
     }
     read_line(kept, fork, span, out)
-}
-
-/// A block without bytes. For a read that stops at no character it has room for what the fork has of the span, so that it grows at no piece, where
-/// there is memory for that at once.
-fn block_for<K: Keeper>(
-    alloc: Global,
-    kept: &KeptVolume<K>,
-    fork: &ForkKey,
-    span: &ReadSpan,
-) -> Bytes
-    requires file { has_file kept.now.state.rows fork.now.node ≡ true }
-    ensures { result ≡ [] }
-{
-    if span.mask != 0 {
-        return Bytes::new(alloc);
-    }
-    let behind = kept
-        .fork_size(fork.node, fork.resource)
-        .saturating_sub(span.from);
-    let size = behind.min(u64::from(span.count)) as usize;
-    Bytes::with_room(alloc, size).unwrap_or(Bytes::new(alloc))
 }
 
 /// What is told of bytes that were read: EOFErr beside them where the end of the fork was met.
@@ -225,8 +204,8 @@ fn read_span<K: Keeper>(
         return Ok((refused(state.alloc, code), Outcome::Done));
     }
     let kept = state.kept_at(own.index);
-    let mut block = block_for(state.alloc, kept, &own.fork, &span);
-    let met_end = read_bytes(kept, &own.fork, &span, &mut block);
+    let mut block = Bytes::new(state.alloc);
+    let met_end = read_bytes(state.alloc, kept, &own.fork, &span, &mut block);
     told_read(met_end, block)
 }
 

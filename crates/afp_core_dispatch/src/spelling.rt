@@ -1,6 +1,8 @@
 //! The steps by which a request is decided before its call's row.
-ghost use Rattle.std.specs.Prelude.{◌≡◌, ◌&&◌};
+ghost use Rattle.std.specs.Prelude.{◌≡◌, if◌then◌else◌};
 ghost use Rattle.std.specs.Option.{option_copied};
+ghost use Rattle.afp_base.specs.declared.code.Code.TheVariants.{CallNotSupported, UserNotAuth};
+ghost use Rattle.afp_calls_grammar.specs.Spelt.{is_command};
 ghost use Rattle.afp_serial.specs.Answer.{needs_user};
 ghost use Rattle.afp_core_dispatch.specs.lemma.Requests.{as_request};
 ghost use Rattle.afp_core_dispatch.specs.lemma.Spelling.{IsJudged, IsSpelled};
@@ -38,7 +40,8 @@ pub fn spelled_call<'a>(
     }
 }
 
-/// The same of a block, and the bytes that are enclosed in a Write.
+/// The same of a block, and the bytes that are enclosed in a Write. The command is found once: by the reader of its fields, or, where a user is missing,
+/// for the code.
 fn judged_call<'a>(
     alloc: Global,
     has_user: bool,
@@ -50,16 +53,25 @@ fn judged_call<'a>(
     let Some(command) = block.first() else {
         return Err(Stop::Refused(Code::ParamErr));
     };
-    if !is_command(*command) {
-        return Err(Stop::Refused(Code::CallNotSupported));
-    }
     if !has_user && needs_user(*command) {
-        return Err(Stop::Refused(Code::UserNotAuth));
+        return Err(Stop::Refused(code_without_user(*command)));
     }
     match read_call(alloc, block, enclosed) {
         Ok(call) => Ok(call),
+        Err(ReadFault::NotSupported) => Err(Stop::Refused(Code::CallNotSupported)),
+        Err(ReadFault::Param) => Err(Stop::Refused(Code::ParamErr)),
         Err(ReadFault::Memory) => Err(Stop::Memory),
-        Err(_) => Err(Stop::Refused(Code::ParamErr)),
+    }
+}
+
+/// Why a command that asks for a user is refused where there is none: a command that is none is told first.
+fn code_without_user(command: u8) -> Code
+    ensures { result ≡ (if is_command command then UserNotAuth else CallNotSupported) }
+{
+    if is_command(command) {
+        Code::UserNotAuth
+    } else {
+        Code::CallNotSupported
     }
 }
 

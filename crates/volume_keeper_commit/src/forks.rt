@@ -1,5 +1,5 @@
 //! What is asked of the forks of a volume beside its keeper.
-ghost use Rattle.std.specs.Prelude.{◌≡◌, ◌≤◌, ◌++◌, Some, true, length, IfOk, OnOk, OnErr};
+ghost use Rattle.std.specs.Prelude.{◌≡◌, ◌≤◌, ◌++◌, ℕ, Bool, [], Some, true, length, IfOk, OnOk, OnErr};
 ghost use Rattle.afp_base.specs.ForkBytes.{taken};
 ghost use Rattle.afp_bitmap.specs.Bits.{IsWithin, file_mask};
 ghost use Rattle.afp_bitmap.specs.Params.{params};
@@ -28,10 +28,17 @@ pub(crate) fn fork_in(whole: &WholeVolume, id: NodeId, resource: bool) -> &Fork
     ensures { (file : Row) → row_at whole.now.state.rows id.0 ≡ Some file → result.now ≡ fork_of resource file }
 {
     whole.keeps_sound();
-    match whole.tree.fork(id, resource) {
-        Some(fork) => fork,
-        None => unreachable!(),
-    }
+    whole.tree.file_fork(id, resource)
+}
+
+/// A block without bytes, with room for what a fork has of so many bytes from a place on, so that it grows at no piece, where there is memory for
+/// that at once.
+fn block_for(alloc: Global, fork: &Fork, from: u64, count: u32) -> Bytes
+    ensures { result ≡ [] }
+{
+    let behind = fork.len().saturating_sub(from);
+    let size = behind.min(u64::from(count)) as usize;
+    Bytes::with_room(alloc, size).unwrap_or(Bytes::new(alloc))
 }
 
 impl<K: Keeper> KeptVolume<K> {
@@ -59,24 +66,33 @@ impl<K: Keeper> KeptVolume<K> {
         fork.len()
     }
 
-    /// Appends the at most `count` bytes of a fork from `from` on. An error changes nothing.
+    /// No fork has more bytes than all forks of a volume may have. The call does nothing.
+    pub fn keeps_few(&self)
+        ensures { (id : ℕ) (resource : Bool) (file : Row) → row_at self.now.state.rows id ≡ Some file → length (fork_of resource file) ≤ most_fork_bytes }
+    {
+        forks_are_given_bytes();
+        self.whole.keeps_sound();
+    }
+
+    /// The at most `count` bytes of a fork from `from` on. The one error is want of memory.
     pub fn read_fork(
         &self,
+        alloc: Global,
         id: NodeId,
         resource: bool,
         from: u64,
         count: u32,
-        out: &mut Bytes,
-    ) -> Result<(), OutOfMemory>
+    ) -> Result<Bytes, OutOfMemory>
         requires { has_file self.now.state.rows id.0 ≡ true }
-        ensures ok { OnOk result ((file : Row) → row_at self.now.state.rows id.0 ≡ Some file → out.new ≡ out.old ++ taken (fork_of resource file) from count) }
-        ensures err { OnErr result (out.new ≡ out.old) }
+        ensures { IfOk result (λ block. (file : Row) → row_at self.now.state.rows id.0 ≡ Some file → block ≡ taken (fork_of resource file) from count) }
     {
         let fork = fork_in(&self.whole, id, resource);
-        fork.read(from, count, out)
+        let mut block = block_for(alloc, fork, from, count);
+        fork.read(from, count, &mut block)?;
+        Ok(block)
     }
 
-    /// Appends bytes as `read_fork` does, up to the first whose value under the mask is `end`, that one included. Whether it stopped at one. An
+    /// Appends the at most `count` bytes of a fork from `from` on, up to the first whose value under the mask is `end`, that one included. Whether it stopped at one. An
     /// error changes nothing.
     pub fn read_fork_line(
         &self,

@@ -1,15 +1,18 @@
 -- The forks of files, as they are kept and as they are shown.
-use Rattle.std.proofs.Common.{◌==◌, ◌≡◌, ◌∙◌, ap, sym, refl, ℕ, Bool, true, false, ◌||◌, List, Option, Some, None}
+use Rattle.std.proofs.Common.{◌==◌, ◌≡◌, ◌∙◌, ap, sym, refl, ℕ, Bool, true, false, not, ◌||◌, List, Option, Some, None}
 use Rattle.std.specs.Prelude.{option_map, is_some, if◌then◌else◌}
 use Rattle.std.specs.List.{list_all}
 use Rattle.std.specs.Ordering.{nat_cmp}
-use Rattle.std.proofs.lemmas.Bool.{eqb-true}
+use Rattle.std.proofs.lemmas.Bool.{eqb-true, not-true}
 use Rattle.sorted_map.specs.Entries.{at}
 use Rattle.volume_spec.specs.Edits.{bare}
 use Rattle.volume_spec.specs.ForkEffect.{fork_of}
+use Rattle.afp_base.specs.Apart.{are_apart}
+use Rattle.volume_spec.proofs.SeenRows.{test-found}
+use Rattle.volume_spec.specs.SoundVolume.{has_file}
 use Rattle.volume_spec.specs.VolumeState.{Row}
 use Rattle.volume_spec.specs.Walk.{row_at}
-use Rattle.volume_tree.proofs.Showing.{found-shown, missing-shown}
+use Rattle.volume_tree.proofs.Showing.{found-shown, missing-shown, test-missing}
 use Rattle.volume_tree.specs.Kept.{Forks, data_of, resource_of, with_forks, rows_of}
 use Rattle.volume_tree.specs.lemma.Kept.{has_forks}
 use Rattle.volume_spec.specs.OpenFork.{file_of}
@@ -66,6 +69,16 @@ always-kept forks rows id all h none = go (row_at rows id) refl h
     go : (o : Option Row) → row_at rows id ≡ o → is_some (file_of o) ≡ true → ⊥
     go None found h = absurd (cc)
     go (Some row) found h = never-if row.dir (is_some (at nat_cmp forks row.id)) row h (found-kept forks rows id row all found) (ap (λ n. is_some (at nat_cmp forks n)) (found-id rows id row found) ∙ ap is_some none)
+
+-- a file is one among the rows without their forks
+pub has-file : (forks : Forks) (rows : List Row) (id : ℕ) → are_apart (λ (a : Row) b. a.id == b.id) (rows_of forks rows) ≡ true → has_file (rows_of forks rows) id ≡ true → is_some (file_of (row_at rows id)) ≡ true
+has-file forks rows id apart there = go (row_at rows id) refl
+  where
+    go : (o : Option Row) → row_at rows id ≡ o → is_some (file_of o) ≡ true
+    go None found = let none : false ≡ true = sym (test-missing (rows_of forks rows) id (λ (row : Row). not row.dir) (missing-shown forks rows id found)) ∙ there in absurd (cc)
+    go (Some row) found =
+        ap (λ b. is_some (if b then None else Some row))
+        (not-true row.dir (sym (test-found (rows_of forks rows) id (λ (r : Row). not r.dir) (with_forks forks row) apart (found-shown forks rows id row found)) ∙ there))
 
 -- a directory has none
 pub of-directory : (rows : List Row) (node : Row) (resource : Bool) → IsNode rows node → node.dir ≡ true → None ≡ fork_at rows node.id resource

@@ -109,7 +109,7 @@ impl Volume {
     }
 
     /// The child of a directory that has this name. It takes memory only for a name with another character than those of ASCII.
-    fn child_named(
+    pub fn child_named(
         &self,
         alloc: Global,
         dir: NodeId,

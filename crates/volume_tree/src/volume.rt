@@ -1,9 +1,9 @@
 //! A volume's tree.
-ghost use Rattle.std.specs.Prelude.{◌≡◌, ◌≤◌, Bool, [], None, length, is_some, IfOk, OnOk, option_map, option_copied, if◌then◌else◌};
+ghost use Rattle.std.specs.Prelude.{◌≡◌, ◌≤◌, Bool, [], true, Some, None, length, is_some, IfOk, OnOk, option_map, option_copied, if◌then◌else◌};
 ghost use Rattle.afp_names.specs.Name.{name_fault};
 ghost use Rattle.volume_spec.specs.DesktopLaws.{with_desktop};
 ghost use Rattle.volume_spec.specs.Edits.{bare, changed_at};
-ghost use Rattle.volume_spec.specs.SoundVolume.{IsSoundVolume, fork_bytes};
+ghost use Rattle.volume_spec.specs.SoundVolume.{IsSoundVolume, fork_bytes, has_file};
 ghost use Rattle.volume_spec.specs.VolumeState.{fresh_volume};
 ghost use Rattle.volume_spec.specs.Walk.{row_at};
 ghost use Rattle.volume_spec.specs.OpenFork.{file_of};
@@ -164,7 +164,18 @@ impl Volume {
         self.forks.get(u64::from(node.id.0))
     }
 
-    /// A fork of the file of an id.
+    /// A fork of a file, found with no look at the nodes.
+    pub fn file_fork(&self, id: NodeId, resource: bool) -> &Fork
+        requires { has_file self.now.state.rows id.0 ≡ true }
+        ensures { Some result.now ≡ fork_at self.now.state.rows id.0 resource }
+    {
+        match self.forks.get(u64::from(id.0)) {
+            Some(forks) => forks.fork(resource),
+            None => unreachable!(),
+        }
+    }
+
+    /// A fork of the file of an id, if it is a file's.
     pub fn fork(&self, id: NodeId, resource: bool) -> Option<&Fork>
         ensures { option_copied result ≡ fork_at self.now.state.rows id.0 resource }
     {
