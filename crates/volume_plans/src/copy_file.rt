@@ -65,12 +65,10 @@ fn copy_place<'a>(
         Some(name) => name,
         None => return Err(PlanFault::Code(Code::ParamErr)),
     };
-    let Ok(key) = name.key(alloc) else {
-        return Err(PlanFault::Memory);
-    };
-    match child(target, parent, key.as_slice()) {
-        Some(_) => return Err(PlanFault::Code(Code::ObjectExists)),
-        None => {}
+    match child(alloc, target, parent, name) {
+        Ok(Some(_)) => return Err(PlanFault::Code(Code::ObjectExists)),
+        Ok(None) => {}
+        Err(_) => return Err(PlanFault::Memory),
     }
     if held {
         return Err(PlanFault::Code(Code::DenyConflict));

@@ -36,12 +36,10 @@ fn new_dir<'a>(
     if lacks(whole, user, WRITE_RIGHT, parent) {
         return Err(PlanFault::Code(Code::AccessDenied));
     }
-    let Ok(key) = name.key(alloc) else {
-        return Err(PlanFault::Memory);
-    };
-    match child(whole, parent, key.as_slice()) {
-        Some(_) => return Err(PlanFault::Code(Code::ObjectExists)),
-        None => {}
+    match child(alloc, whole, parent, name) {
+        Ok(Some(_)) => return Err(PlanFault::Code(Code::ObjectExists)),
+        Ok(None) => {}
+        Err(_) => return Err(PlanFault::Memory),
     }
     let id = match room(whole) {
         Some(id) => id,

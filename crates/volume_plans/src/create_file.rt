@@ -73,10 +73,9 @@ fn new_file<'a>(
     if lacks(whole, user, WRITE_RIGHT, parent) {
         return Err(PlanFault::Code(Code::AccessDenied));
     }
-    let Ok(key) = name.key(alloc) else {
+    let Ok(old) = child(alloc, whole, parent, name) else {
         return Err(PlanFault::Memory);
     };
-    let old = child(whole, parent, key.as_slice());
     match file_id(whole, opens, hard, old) {
         Ok(id) => Ok((id, parent, name, old)),
         Err(code) => Err(PlanFault::Code(code)),

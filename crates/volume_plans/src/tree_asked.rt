@@ -7,7 +7,7 @@ ghost use Rattle.volume_spec.specs.Shared.{directory_of, has_attribute, has_no_i
 ghost use Rattle.volume_spec.specs.Walk.{child_by_key, found, has_directory, new_place};
 ghost use Rattle.volume_tree.specs.Answered.{FailsAs, IsFoundNode};
 
-use afp_base::NodeId;
+use afp_base::{NodeId, OutOfMemory};
 use afp_names::{Name, Path};
 use std::alloc::Global;
 use volume_edits::WholeVolume;
@@ -41,11 +41,16 @@ pub(crate) fn directory(whole: &WholeVolume, id: NodeId) -> NodeId
     whole.tree.directory(id)
 }
 
-/// The child of a directory whose name has this key.
-pub(crate) fn child(whole: &WholeVolume, dir: NodeId, key: &[u8]) -> Option<NodeId>
-    ensures { IsFoundNode result (child_by_key whole.now.state.rows dir.0 key.now) }
+/// The child of a directory that has this name. It takes memory only for a name with another character than those of ASCII.
+pub(crate) fn child(
+    alloc: Global,
+    whole: &WholeVolume,
+    dir: NodeId,
+    name: &Name,
+) -> Result<Option<NodeId>, OutOfMemory>
+    ensures { IfOk result (λ found. IsFoundNode found (child_by_key whole.now.state.rows dir.0 (name_key name.now))) }
 {
-    whole.tree.child(dir, key)
+    whole.tree.child_named(alloc, dir, name)
 }
 
 /// Whether another node of a directory has a name with this key.
