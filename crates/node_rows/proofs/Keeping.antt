@@ -17,9 +17,9 @@ use Rattle.volume_spec.specs.VolumeState.{Row}
 use Rattle.volume_spec.specs.Walk.{row_at, child_by_key}
 use Rattle.node_rows.proofs.Sorting.{put-comm, order-filter, number_place}
 use Rattle.node_rows.specs.Children.{child_of, child_order, children_of}
-use Rattle.node_rows.specs.Kept.{admitted}
+use Rattle.node_rows.specs.Kept.{IsPlaceOf, admitted}
 use Rattle.node_rows.specs.lemma.Kept.{AreKept}
-use Rattle.node_rows.specs.lemma.Places.{IsPlaceOf, is_other, is_apart}
+use Rattle.node_rows.specs.lemma.Places.{is_other, is_apart}
 use Rattle.node_rows.specs.declared.child.Child.{Child}
 use Rattle.afp_base.proofs.Facts.{bytes_differ_turn}
 use Rattle.afp_base.proofs.ListFacts.{all-filter, all-map-where, all-weaker, find-none, find-passes, none-all, none-find}

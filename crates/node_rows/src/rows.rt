@@ -1,5 +1,5 @@
 //! The nodes of a volume.
-ghost use Rattle.std.specs.Prelude.{◌≡◌, ◌+◌, ◌<◌, ◌≤◌, ◌^◌, ◌++◌, ◌∷◌, [], true, false, None, Some, length, map, nat_lt, MatchOption, option_map, slice_get, min, not, insert, IfOk, OnOk, vec_len, vec_capacity};
+ghost use Rattle.std.specs.Prelude.{◌≡◌, ℕ, ◌+◌, ◌<◌, ◌≤◌, ◌^◌, ◌++◌, ◌∷◌, [], true, false, None, Some, length, map, nat_lt, MatchOption, option_map, slice_get, min, not, insert, IfOk, OnOk, vec_len, vec_capacity};
 ghost use Rattle.std.specs.Option.{option_copied};
 ghost use Rattle.std.specs.List.{list_all};
 ghost use Rattle.afp_names.specs.Name.{name_key};
@@ -11,7 +11,7 @@ ghost use Rattle.volume_spec.specs.SoundVolume.{are_named_alike, has_rising_ids,
 ghost use Rattle.volume_spec.specs.VolumeState.{Row, first_id, root_id};
 ghost use Rattle.volume_spec.specs.Walk.{child_by_key, row_at};
 ghost use Rattle.node_rows.specs.Children.{child_of, child_order, children_of};
-ghost use Rattle.node_rows.specs.Kept.{admitted, marked};
+ghost use Rattle.node_rows.specs.Kept.{IsPlaceOf, admitted, marked};
 ghost use Rattle.node_rows.specs.Kinds.{IsPlaceBehind, are_of_kind};
 ghost use Rattle.node_rows.specs.lemma.Kinds.{child_kinds, is_file};
 ghost use Rattle.node_rows.specs.lemma.Places.{is_apart, place_for};
@@ -104,6 +104,13 @@ impl Rows {
             Some(place) => Some(&self.nodes[place]),
             None => None,
         }
+    }
+
+    /// The place of the node of an id among `nodes`.
+    pub fn find(&self, id: NodeId) -> Option<usize>
+        ensures { IsPlaceOf self.now.rows id.0 result }
+    {
+        find_node(self.nodes.as_slice(), id)
     }
 
     /// The child of a directory whose name has this key.
@@ -231,16 +238,14 @@ impl Rows {
         );
     }
 
-    /// Gives the node of an id other marks, where there is one.
-    pub fn mark(&mut self, id: NodeId, marks: Marks)
-        ensures rows { self.new.rows ≡ with_changed id.0 (marked marks) self.old.rows }
+    /// Gives the node at a place among `nodes` other marks.
+    pub fn mark_at(&mut self, place: usize, marks: Marks)
+        requires { (id : ℕ) × IsPlaceOf self.old.rows id (Some place) }
+        ensures rows { (id : ℕ) → IsPlaceOf self.old.rows id (Some place) → self.new.rows ≡ with_changed id (marked marks) self.old.rows }
         ensures next { self.new.next_id ≡ self.old.next_id }
         ensures spare { self.new.spare ≡ self.old.spare }
     {
-        match find_node(self.nodes.as_slice(), id) {
-            Some(place) => set_marks(&mut self.nodes, place, marks),
-            None => {}
-        }
+        set_marks(&mut self.nodes, place, marks);
     }
 
     /// Takes the node of an id away, where there is one.

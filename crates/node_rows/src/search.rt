@@ -5,7 +5,8 @@ ghost use Rattle.volume_spec.specs.Order.{stands_before, rises};
 ghost use Rattle.afp_base.specs.Apart.{are_apart};
 ghost use Rattle.volume_spec.specs.SoundVolume.{has_rising_ids};
 ghost use Rattle.node_rows.specs.Children.{child_order};
-ghost use Rattle.node_rows.specs.lemma.Places.{IsPart, IsPlaceOf, is_child, is_child_at, is_other};
+ghost use Rattle.node_rows.specs.Kept.{IsPlaceOf};
+ghost use Rattle.node_rows.specs.lemma.Places.{IsPart, is_child, is_child_at, is_other};
 
 use crate::child::Child;
 use crate::node::Node;

@@ -218,7 +218,10 @@ fn one(alloc: Global, rows: &mut Rows, line: &Line<'_>) -> Result<Option<NodeId>
         Kind::Admit => admit(alloc, rows, id, dir, name),
         Kind::Place => move_to(alloc, rows, id, dir, name),
         Kind::Mark => {
-            rows.mark(id, marks(line.number));
+            match rows.find(id) {
+                Some(place) => rows.mark_at(place, marks(line.number)),
+                None => {}
+            }
             Ok(Some(id))
         }
         _ => {

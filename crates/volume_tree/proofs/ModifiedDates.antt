@@ -1,9 +1,9 @@
 -- Another modified date of a row that was found.
 use Rattle.std.proofs.Common.{◌==◌, ◌≡◌, ◌∙◌, ap, refl, ℕ, true, List, [], ◌∷◌, map, Some, None}
-use Rattle.std.specs.Prelude.{ℤ, Bool}
+use Rattle.std.specs.Prelude.{ℤ, Bool, slice_get}
 use Rattle.std.specs.List.{find}
 use Rattle.std.proofs.lemmas.Bool.{cond_both, cond-false}
-use Rattle.node_rows.specs.Kept.{marked}
+use Rattle.node_rows.specs.Kept.{IsPlaceOf, marked}
 use Rattle.node_rows.specs.declared.node.Marks.{Marks}
 use Rattle.volume_spec.proofs.Orders.{rising-ids-differ}
 use Rattle.volume_spec.proofs.SoundEdits.{changed-same}
@@ -31,13 +31,13 @@ pub marked-same : (rows : List Row) (id : ℕ) (marks : Marks) (change : Row →
 unfolding row_at with_changed
 marked-same rows id marks change s rising found same = changed-same rows id (marked marks) change s (rising-ids-differ rows rising) found same
 
-pub filed-same : (rows : List Row) (id : ℕ) (filed : Bool) (marks new : Marks) → has_rising_ids rows ≡ true → IsMarks (Some marks) (row_at rows id) → new ≡ record marks { filed = filed } → with_changed id (marked new) rows ≡ with_changed id (filed_as filed) rows
-filed-same rows id filed marks new rising found is =
-    marked-same rows id new (filed_as filed) found.0 rising found.1 (ap (λ (m : Marks). marked m found.0) is ∙ ap (filed_as filed) found.2)
+pub filed-same : (rows : List Row) (id place : ℕ) (filed : Bool) (marks new : Marks) → has_rising_ids rows ≡ true → IsPlaceOf rows id (Some place) → IsMarks marks (slice_get rows place) → new ≡ record marks { filed = filed } → with_changed id (marked new) rows ≡ with_changed id (filed_as filed) rows
+filed-same rows id place filed marks new rising stands found is =
+    marked-same rows id new (filed_as filed) found.0 rising (stands.1 ∙ found.1) (ap (λ (m : Marks). marked m found.0) is ∙ ap (filed_as filed) found.2)
 
-pub dated-same : (rows : List Row) (id : ℕ) (date : ℤ) (marks new : Marks) → has_rising_ids rows ≡ true → IsMarks (Some marks) (row_at rows id) → new ≡ record marks { modified = date } → with_changed id (marked new) rows ≡ with_changed id (modified_on date) rows
-dated-same rows id date marks new rising found is =
-    marked-same rows id new (modified_on date) found.0 rising found.1 (ap (λ (m : Marks). marked m found.0) is ∙ ap (modified_on date) found.2)
+pub dated-same : (rows : List Row) (id place : ℕ) (date : ℤ) (marks new : Marks) → has_rising_ids rows ≡ true → IsPlaceOf rows id (Some place) → IsMarks marks (slice_get rows place) → new ≡ record marks { modified = date } → with_changed id (marked new) rows ≡ with_changed id (modified_on date) rows
+dated-same rows id place date marks new rising stands found is =
+    marked-same rows id new (modified_on date) found.0 rising (stands.1 ∙ found.1) (ap (λ (m : Marks). marked m found.0) is ∙ ap (modified_on date) found.2)
 
-pub set-same : (rows : List Row) (id : ℕ) (settings : Settings) (marks : Marks) → has_rising_ids rows ≡ true → IsMarksSet settings (Some marks) (row_at rows id) → with_changed id (marked marks) rows ≡ with_changed id (with_settings settings) rows
-set-same rows id settings marks rising found = marked-same rows id marks (with_settings settings) found.0 rising found.1 found.2
+pub set-same : (rows : List Row) (id place : ℕ) (settings : Settings) (marks : Marks) → has_rising_ids rows ≡ true → IsPlaceOf rows id (Some place) → IsMarksSet settings marks (slice_get rows place) → with_changed id (marked marks) rows ≡ with_changed id (with_settings settings) rows
+set-same rows id place settings marks rising stands found = marked-same rows id marks (with_settings settings) found.0 rising (stands.1 ∙ found.1) found.2

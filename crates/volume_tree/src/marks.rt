@@ -1,8 +1,7 @@
 //! Marks of nodes that change by themselves. None of these takes memory.
-ghost use Rattle.std.specs.Prelude.{◌≡◌, ◌≤◌};
+ghost use Rattle.std.specs.Prelude.{◌≡◌, ◌≤◌, ◌<◌, length, slice_get};
 ghost use Rattle.volume_spec.specs.Edits.{filed_as, with_changed};
 ghost use Rattle.volume_spec.specs.SetFileDirParms.{with_settings};
-ghost use Rattle.volume_spec.specs.Walk.{row_at};
 ghost use Rattle.volume_tree.specs.lemma.Edited.{modified_on};
 ghost use Rattle.volume_tree.specs.lemma.Kept.{IsMarks, IsMarksSet};
 
@@ -17,8 +16,11 @@ pub(crate) fn file_node(rows: &mut Rows, id: NodeId, filed: bool)
     ensures spare { rows.old.spare ≤ rows.new.spare }
 {
     let _nodes = rows.nodes();
-    match marks_at(rows, id) {
-        Some(marks) => rows.mark(id, filed_marks(marks, filed)),
+    match rows.find(id) {
+        Some(place) => {
+            let marks = marks_at(rows, place);
+            rows.mark_at(place, filed_marks(marks, filed));
+        }
         None => {}
     }
 }
@@ -37,8 +39,11 @@ pub(crate) fn set_modified(rows: &mut Rows, id: NodeId, date: i32)
     ensures spare { rows.old.spare ≤ rows.new.spare }
 {
     let _nodes = rows.nodes();
-    match marks_at(rows, id) {
-        Some(marks) => rows.mark(id, modified_marks(marks, date)),
+    match rows.find(id) {
+        Some(place) => {
+            let marks = marks_at(rows, place);
+            rows.mark_at(place, modified_marks(marks, date));
+        }
         None => {}
     }
 }
@@ -60,28 +65,27 @@ pub(crate) fn set_node(rows: &mut Rows, id: NodeId, settings: &Settings)
     ensures spare { rows.old.spare ≤ rows.new.spare }
 {
     let _nodes = rows.nodes();
-    match marks_set(rows, id, settings) {
-        Some(marks) => rows.mark(id, marks),
+    match rows.find(id) {
+        Some(place) => {
+            let marks = marks_set(rows, place, settings);
+            rows.mark_at(place, marks);
+        }
         None => {}
     }
 }
 
-/// The marks of the node of an id, with its settings.
-fn marks_set(rows: &Rows, id: NodeId, settings: &Settings) -> Option<Marks>
-    ensures { IsMarksSet settings.now result (row_at rows.now.rows id.0) }
+/// The marks of the node at a place, with its settings.
+fn marks_set(rows: &Rows, place: usize, settings: &Settings) -> Marks
+    requires { place < length rows.now.rows }
+    ensures { IsMarksSet settings.now result (slice_get rows.now.rows place) }
 {
-    match rows.get(id) {
-        Some(node) => Some(settings.marks(node)),
-        None => None,
-    }
+    settings.marks(&rows.nodes()[place])
 }
 
-/// The marks of the node of an id.
-pub(crate) fn marks_at(rows: &Rows, id: NodeId) -> Option<Marks>
-    ensures { IsMarks result (row_at rows.now.rows id.0) }
+/// The marks of the node at a place.
+fn marks_at(rows: &Rows, place: usize) -> Marks
+    requires { place < length rows.now.rows }
+    ensures { IsMarks result (slice_get rows.now.rows place) }
 {
-    match rows.get(id) {
-        Some(node) => Some(Marks::of(node)),
-        None => None,
-    }
+    Marks::of(&rows.nodes()[place])
 }

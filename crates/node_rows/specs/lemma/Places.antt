@@ -1,16 +1,10 @@
 -- Places of rows and of children, as the search finds them.
-use Rattle.std.specs.Prelude.{◌≡◌, ℕ, ◌≤◌, ◌<◌, Bool, not, ◌&&◌, ◌==◌, bytes_eq, List, length, ◌-◌, take, drop, Option, Some, None, slice_get}
+use Rattle.std.specs.Prelude.{◌≡◌, ℕ, ◌≤◌, Bool, not, ◌&&◌, ◌==◌, bytes_eq, List, length, ◌-◌, take, drop}
 use Rattle.std.specs.List.{filter, position_or_len}
 use Rattle.volume_spec.specs.Order.{stands_before}
 use Rattle.volume_spec.specs.VolumeState.{Row}
-use Rattle.volume_spec.specs.Walk.{row_at}
 use Rattle.node_rows.specs.Children.{child_of, child_order}
 use Rattle.node_rows.specs.declared.child.Child.{Child}
-
--- the place of the row of this id, if there is one
-abbrev pub IsPlaceOf : List Row → ℕ → Option ℕ → Type 0
-IsPlaceOf rows id None = row_at rows id ≡ None
-IsPlaceOf rows id (Some i) = (i < length rows) × (row_at rows id ≡ slice_get rows i)
 
 -- whether a child has this parent and id
 abbrev pub is_child_at : ℕ → ℕ → Child → Bool

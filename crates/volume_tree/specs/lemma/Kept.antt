@@ -53,11 +53,9 @@ abbrev pub at_gone : Option NodeId → ℕ → Option FileForks → Option FileF
 at_gone gone id kept = if is_gone gone id then None else kept
 
 -- the marks are those of a row that was found
-abbrev pub IsMarks : Option Marks → Option Row → Type 0
-IsMarks None found = found ≡ None
-IsMarks (Some marks) found = (row : Row) × (found ≡ Some row) × (marked marks row ≡ row)
+abbrev pub IsMarks : Marks → Option Row → Type 0
+IsMarks marks found = (row : Row) × (found ≡ Some row) × (marked marks row ≡ row)
 
 -- the marks are those of a row that was found, with its settings
-abbrev pub IsMarksSet : Settings → Option Marks → Option Row → Type 0
-IsMarksSet settings None found = found ≡ None
-IsMarksSet settings (Some marks) found = (row : Row) × (found ≡ Some row) × (marked marks row ≡ with_settings settings row)
+abbrev pub IsMarksSet : Settings → Marks → Option Row → Type 0
+IsMarksSet settings marks found = (row : Row) × (found ≡ Some row) × (marked marks row ≡ with_settings settings row)

@@ -6,9 +6,9 @@ use Rattle.volume_spec.specs.Edits.{with_changed, without, at_place, is_taken}
 use Rattle.volume_spec.specs.Order.{rises, put_in}
 use Rattle.volume_spec.specs.VolumeState.{Row}
 use Rattle.node_rows.specs.Children.{child_order, node_id}
-use Rattle.node_rows.specs.Kept.{RowsValue}
+use Rattle.node_rows.specs.Kept.{IsPlaceOf, RowsValue}
 use Rattle.node_rows.specs.lemma.Kept.{AreKept}
-use Rattle.node_rows.specs.lemma.Places.{IsPlaceOf, is_other, is_apart, place_for}
+use Rattle.node_rows.specs.lemma.Places.{is_other, is_apart, place_for}
 use Rattle.node_rows.specs.declared.child.Child.{Child}
 use Rattle.node_rows.specs.lemma.Kinds.{child_kinds}
 use Rattle.node_rows.proofs.ChildKinds.{kinds-placed}

@@ -2,9 +2,9 @@ use Rattle.std.proofs.Common.{◌≡◌, ◌∙◌, ap, sym, subst, List, Some, 
 use Rattle.std.specs.List.{filter, remove}
 use Rattle.volume_spec.specs.Edits.{without}
 use Rattle.volume_spec.specs.VolumeState.{Row}
-use Rattle.node_rows.specs.Kept.{RowsValue}
+use Rattle.node_rows.specs.Kept.{IsPlaceOf, RowsValue}
 use Rattle.node_rows.specs.lemma.Kept.{AreKept}
-use Rattle.node_rows.specs.lemma.Places.{IsPlaceOf, is_other}
+use Rattle.node_rows.specs.lemma.Places.{is_other}
 use Rattle.node_rows.specs.declared.child.Child.{Child}
 use Rattle.node_rows.specs.lemma.Kinds.{child_kinds}
 use Rattle.node_rows.proofs.ChildKinds.{as-many, kinds-gone}
