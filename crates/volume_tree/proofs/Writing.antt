@@ -1,8 +1,11 @@
 -- What is kept of a volume after other bytes of a fork.
-use Rattle.std.proofs.Common.{◌==◌, ◌≡◌, ◌∙◌, ap, sym, refl, subst, ℕ, ◌+◌, ◌≤◌, ◌<◌, arith, Bool, true, false, ◌||◌, List, [], ◌∷◌, length, Option, Some, None, inl, inr}
+use Rattle.std.proofs.Common.{◌==◌, ◌≡◌, ◌∙◌, ap, sym, refl, subst, ℕ, ◌+◌, ◌≤◌, ◌<◌, arith, Bool, true, false, ◌||◌, cond, List, [], ◌∷◌, length, Option, Some, None, inl, inr}
 use Rattle.std.specs.Prelude.{pos, is_some, option_map, if◌then◌else◌}
+use Rattle.std.specs.Cmp.{eq_by_cmp_equiv}
 use Rattle.std.specs.List.{list_all}
-use Rattle.std.specs.Ordering.{nat_cmp}
+use Rattle.std.specs.Map.{update}
+use Rattle.std.specs.Ordering.{eq_by_cmp, nat_cmp}
+use Rattle.std.proofs.lemmas.Cmp.{nat_cmp_total}
 use Rattle.std.proofs.lemmas.Bool.{or_right, cases_Bool, cond_both, cond-true, cond-false, eqb-true, ne_eqb}
 use Rattle.afp_base.specs.declared.ids.NodeId.{NodeId}
 use Rattle.node_rows.specs.Kept.{RowsValue}
@@ -24,8 +27,22 @@ use Rattle.volume_tree.specs.lemma.Kept.{IsKeptVolume, has_forks}
 use Rattle.volume_tree.specs.lemma.Edited.{modified_rows}
 use Rattle.volume_spec.specs.OpenFork.{file_of}
 use Rattle.volume_tree.specs.Shown.{fork_at}
+use Rattle.volume_tree.specs.declared.forks.FileForks.{FileForks as Kept}
 use Rattle.volume_tree.specs.declared.head.Dates.{Dates}
 use Rattle.afp_base.proofs.ListFacts.{all-weaker}
+
+-- forks that were taken out, and come back at their key with other bytes in one of them
+pub put-changed : (resource : Bool) (after : List ℕ) (old between new : Forks) (key id : ℕ) (kept later : Kept) → key ≡ id → Some kept ≡ at nat_cmp old key → ((q : ℕ) → at nat_cmp new q ≡ update (eq_by_cmp nat_cmp) (at nat_cmp between) key (Some later) q)
+    → later ≡ record kept { data_fork = (if resource then kept.data_fork else after); resource_fork = (if resource then after else kept.resource_fork) } → IsChanged resource after (at nat_cmp old id) (at nat_cmp new id)
+put-changed resource after old between new key id kept later key_is kept_is puts later_is =
+    let was : Some kept ≡ at nat_cmp old id = kept_is ∙ ap (at nat_cmp old) key_is in
+    let same : eq_by_cmp nat_cmp key id ≡ true = ap (λ n. eq_by_cmp nat_cmp n id) key_is ∙ (eq_by_cmp_equiv nat_cmp_total).refl id in
+    let is : at nat_cmp new id ≡ Some later = puts id ∙ ap (λ b. cond b (Some later) (at nat_cmp between id)) same in
+    record {
+      data_fork = ap data_of is ∙ ap (λ (n : Kept). n.data_fork) later_is ∙ ap (λ o. if resource then data_of o else after) was;
+      resource_fork = ap resource_of is ∙ ap (λ (n : Kept). n.resource_fork) later_is ∙ ap (λ o. if resource then after else resource_of o) was;
+      kept = ap is_some is;
+    }
 
 -- a file that is there, as it is kept
 pub record FileThere (forks : Forks) (rows : List Row) (id : ℕ) (resource : Bool) (bytes : List ℕ) : Type 0 where

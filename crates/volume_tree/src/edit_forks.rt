@@ -1,5 +1,5 @@
 //! Edits of forks. None of these takes memory.
-ghost use Rattle.std.specs.Prelude.{◌≡◌, ◌==◌, ◌≤◌, ℕ, pos, true, false, Some, is_some, if◌then◌else◌};
+ghost use Rattle.std.specs.Prelude.{◌≡◌, ◌==◌, ◌≤◌, ℕ, pos, true, false, Some, length, is_some, if◌then◌else◌};
 ghost use Rattle.std.specs.Ordering.{nat_cmp};
 ghost use Rattle.sorted_map.specs.Entries.{at};
 ghost use Rattle.volume_spec.specs.EditLaws.{MayExchange, MayWrite};
@@ -11,7 +11,7 @@ ghost use Rattle.volume_tree.specs.Shown.{fork_at};
 ghost use Rattle.volume_tree.specs.lemma.ForkEffect.{IsChanged, kept_fork};
 
 use crate::forks::FileForks;
-use crate::kept_forks::{kept_len, lift, put_back};
+use crate::kept_forks::place_of;
 use crate::marks::set_modified;
 use crate::volume::Volume;
 use afp_base::{Moment, NodeId};
@@ -37,9 +37,9 @@ impl Volume {
         ensures spare { self.old.spare ≤ self.new.spare }
     {
         edits_keep_volumes_sound();
-        let rest = self.used - kept_len(&self.forks, id, resource);
-        self.used = rest + write.plan().len();
-        write_kept(&mut self.forks, alloc, id, resource, write);
+        let after = write.plan().len();
+        let before = write_kept(&mut self.forks, alloc, id, resource, write);
+        self.used = self.used - before + after;
         set_modified(&mut self.rows, id, date_of(now));
     }
 
@@ -75,23 +75,27 @@ fn modified_of(rows: &Rows, id: NodeId) -> i32
     }
 }
 
-/// A fork that is kept gets the bytes of a write of it as it is.
+/// A fork that is kept gets the bytes of a write of it as it is. Gives how many it had.
 fn write_kept(
     forks: &mut SortedMap<u64, FileForks>,
     alloc: Global,
     id: NodeId,
     resource: bool,
     write: ForkWrite,
-)
+) -> u64
     requires there { is_some (at nat_cmp forks.old id.0) ≡ true }
     requires before { write.before ≡ kept_fork resource (at nat_cmp forks.old id.0) }
     ensures others { (q : ℕ) → (q == id.0) ≡ false → at nat_cmp forks.new q ≡ at nat_cmp forks.old q }
     ensures changed { IsChanged resource write.after (at nat_cmp forks.old id.0) (at nat_cmp forks.new id.0) }
+    ensures len { result ≡ length write.before }
 {
     let key = u64::from(id.0);
-    let mut kept = lift(forks, alloc, key);
+    let place = place_of(forks, key);
+    let mut kept = forks.replace(place, key, FileForks::new(alloc));
+    let before = kept.fork(resource).len();
     kept.write(resource, write);
-    put_back(forks, key, kept);
+    let _ = forks.replace(place, key, kept);
+    before
 }
 
 /// The forks of two files change places.

@@ -1,8 +1,8 @@
 //! Forks that are kept of a file, and change in place. None of these takes memory.
-ghost use Rattle.std.specs.Prelude.{◌≡◌, ◌==◌, ℕ, List, true, false, Some, length, is_some, if◌then◌else◌};
+ghost use Rattle.std.specs.Prelude.{◌≡◌, ◌==◌, ℕ, List, true, false, Some, is_some, if◌then◌else◌};
 ghost use Rattle.std.specs.Ordering.{nat_cmp};
 ghost use Rattle.fork_bytes.specs.Plan.{IsForkPlan as IsForkPlan};
-ghost use Rattle.sorted_map.specs.Entries.{at};
+ghost use Rattle.sorted_map.specs.Entries.{at, IsAt};
 ghost use Rattle.volume_tree.specs.lemma.ForkEffect.{IsChanged, kept_fork};
 
 use crate::forks::FileForks;
@@ -10,16 +10,6 @@ use afp_base::NodeId;
 use fork_bytes::ForkPlan;
 use sorted_map::SortedMap;
 use std::alloc::Global;
-
-/// How many bytes a fork has that is kept.
-pub(crate) fn kept_len(forks: &SortedMap<u64, FileForks>, id: NodeId, resource: bool) -> u64
-    ensures { result ≡ length (kept_fork resource (at nat_cmp forks.now id.0)) }
-{
-    match forks.get(u64::from(id.0)) {
-        Some(forks) => forks.fork(resource).len(),
-        None => 0,
-    }
-}
 
 /// Carries out a plan of a fork that is kept.
 pub(crate) fn change_fork(
@@ -35,22 +25,20 @@ pub(crate) fn change_fork(
     ensures changed { (after : List ℕ) → IsForkPlan (kept_fork resource (at nat_cmp forks.old id.0)) after plan → IsChanged resource after (at nat_cmp forks.old id.0) (at nat_cmp forks.new id.0) }
 {
     let key = u64::from(id.0);
-    let mut kept = lift(forks, alloc, key);
+    let place = place_of(forks, key);
+    let mut kept = forks.replace(place, key, FileForks::new(alloc));
     kept.change(resource, plan);
-    put_back(forks, key, kept);
+    let _ = forks.replace(place, key, kept);
 }
 
-/// Takes forks that are kept, and leaves some of no bytes in their place.
-pub(crate) fn lift(forks: &mut SortedMap<u64, FileForks>, alloc: Global, key: u64) -> FileForks
-    requires { is_some (at nat_cmp forks.old key) ≡ true }
-    ensures forks { Some result ≡ at nat_cmp forks.old key }
-    ensures kept { is_some (at nat_cmp forks.new key) ≡ true }
-    ensures others { (q : ℕ) → (q == key) ≡ false → at nat_cmp forks.new q ≡ at nat_cmp forks.old q }
+/// Where forks are that are kept.
+pub(crate) fn place_of(forks: &SortedMap<u64, FileForks>, key: u64) -> usize
+    requires { is_some (at nat_cmp forks.now key) ≡ true }
+    ensures { IsAt nat_cmp forks.now key result }
 {
-    match forks.insert(key, FileForks::new(alloc)) {
-        Ok(Some(kept)) => kept,
-        Ok(None) => unreachable!(),
-        Err(_) => unreachable!(),
+    match forks.place(key) {
+        Some(place) => place,
+        None => unreachable!(),
     }
 }
 
