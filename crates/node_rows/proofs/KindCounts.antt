@@ -142,8 +142,7 @@ back : (less : ℕ) (xs : List ℕ) → map (lowered less) (map (raised less) xs
 back less [] = refl
 back less (x ∷ xs) = let same : x + less - less ≡ x = omega arith in λ i. same i ∷ back less xs i
 
--- what stands at a place is a file or none
-
+-- the count at a place is above the one before it by what stands there, and so is each behind it
 record IsRise (n : ℕ) (ks : List Bool) (place d : ℕ) : Type 0 where
   pub low : n + many true (take place ks) ≤ slice_index_or (running n ks) place d
   pub least : list_all (is_at_least (slice_index_or (running n ks) place d - (n + many true (take place ks)))) (drop (suc place) (running n ks)) ≡ true

@@ -1,7 +1,7 @@
 //! A fork as edits leave it.
 ghost use Rattle.std.specs.Prelude.{◌≡◌, [], length, option_map, unwrap_or, if◌then◌else◌};
 ghost use Rattle.std.specs.Option.{option_copied};
-ghost use Rattle.volume_tree.specs.declared.forks.FileForks.{FileForks as Kept};
+ghost use Rattle.volume_tree.specs.declared.forks.FileForks.{FileForks as Forks};
 
 use fork_bytes::{Fork, ForkWrite};
 use std::marker::Model;
@@ -40,7 +40,7 @@ impl<'a> ForkAfter<'a> {
 
     /// The one fork or the other of a file as it is, of no bytes where there is none.
     pub(crate) fn kept_or_none(forks: Option<&'a FileForks>, resource: bool) -> ForkAfter<'a>
-        ensures { result ≡ unwrap_or (option_map (λ (kept : Kept). if resource then kept.resource_fork else kept.data_fork) (option_copied forks.entry)) [] }
+        ensures { result ≡ unwrap_or (option_map (λ (kept : Forks). if resource then kept.resource_fork else kept.data_fork) (option_copied forks.entry)) [] }
     {
         match forks {
             Some(forks) => ForkAfter::kept(forks.fork(resource)),

@@ -1,4 +1,4 @@
--- The forks of files, as they are kept and as they are shown.
+-- The forks of files, and nodes, as they are kept and as they are shown.
 use Rattle.std.proofs.Common.{◌==◌, ◌≡◌, ◌∙◌, ap, sym, refl, ℕ, Bool, true, false, not, ◌||◌, List, Option, Some, None}
 use Rattle.std.specs.Prelude.{option_map, is_some, if◌then◌else◌}
 use Rattle.std.specs.List.{list_all}
@@ -110,7 +110,7 @@ row-of rows id node row shown found =
     let is : node ≡ bare row = cc in
     record { found = ap (row_at rows) (ap (λ (r : Row). r.id) is ∙ found-id rows id row found) ∙ found; shown = is }
 
--- and one of them, of that id
+-- a node that is shown is a node of these rows, of the id that was asked
 pub node-of : (rows : List Row) (id : ℕ) (node : Row) → Some node ≡ option_map bare (row_at rows id) → IsNode rows node × (node.id ≡ id)
 node-of rows id node shown = go (row_at rows id) refl
   where

@@ -158,6 +158,7 @@ impl Volume {
         requires { IsNode self.now.state.rows node.now }
         ensures { (resource : Bool) → option_map (λ (forks : Kept). if resource then forks.resource_fork else forks.data_fork) (option_copied result) ≡ fork_at self.now.state.rows node.now.id resource }
     {
+        // (forks of no bytes are kept for a directory's id too)
         if node.dir {
             return None;
         }

@@ -1,4 +1,4 @@
--- A node that a volume has, as it is found.
+-- What is told of a node that a volume has.
 use Rattle.std.proofs.Common.{◌≡◌, ◌∙◌, ap, sym, ℕ, true, false, cond, List, ◌++◌}
 use Rattle.std.specs.Prelude.{Result, Ok, Err, OnOk}
 use Rattle.afp_bitmap.specs.Params.{params}

@@ -1,4 +1,4 @@
--- A node and its row, for private contracts (this profile).
+-- A node with its forks, for private contracts (this profile).
 use Rattle.std.specs.Prelude.{ℕ, Bool, true, false, List, [], Option, option_map, unwrap_or, if◌then◌else◌}
 use Rattle.volume_spec.specs.VolumeState.{Row}
 use Rattle.volume_tree.specs.Shown.{fork_at}
