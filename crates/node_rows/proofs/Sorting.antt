@@ -1,9 +1,9 @@
 -- Lists in the order of their keys: one element more, elements less, and what is found.
-use Rattle.std.proofs.Common.{◌≡◌, ◌∙◌, ap, sym, refl, ℕ, suc, ◌+◌, ◌==◌, ◌≤◌, ◌<◌, Bool, true, false, not, cond, List, [], ◌∷◌, ◌++◌, length, take, drop, inl, inr, Option, Some, None, arith}
+use Rattle.std.proofs.Common.{◌≡◌, ◌∙◌, ap, sym, subst, refl, ℕ, zero, suc, ◌+◌, ◌==◌, ◌≤◌, ◌<◌, Bool, true, false, not, cond, List, [], ◌∷◌, ◌++◌, length, take, drop, inl, inr, Option, Some, None, arith}
 use Rattle.std.specs.Prelude.{slice_get, slice_index_or, nat_lt, bytes_eq}
 use Rattle.std.proofs.lemmas.Option.{slice_get_past, slice_get_read}
 use Rattle.std.specs.List.{list_all, list_any, filter, find, insert, position_or_len}
-use Rattle.std.proofs.lemmas.Bool.{and_parts, and_from, cases_Bool, cond_both, cond-true, cond-false, ltb-true, ltb-false, ne_eqb, not-true}
+use Rattle.std.proofs.lemmas.Bool.{and_parts, and_from, cases_Bool, cond_both, cond-true, cond-false, ltb-true, ltb-false, lt-ltb, eqb-true, ne_eqb, not-true}
 use Rattle.std.proofs.lemmas.Slice.Eq.{bytes_eq-Decides}
 use Rattle.volume_spec.proofs.Ordered.{before-trans, before-other, before-one-way}
 use Rattle.volume_spec.proofs.Rising.{above-all}
@@ -253,6 +253,48 @@ module _ {A : Type 0} (number : A → ℕ) (n : ℕ) (l : List A) (i : ℕ) wher
 
   pub number-at : (x : A) → rises_from number 0 l ≡ true → i ≡ number_place number n l → i < length l → x ≡ slice_index_or l i x → find (λ x. number x == n) l ≡ cond (number x == n) (Some x) None
   number-at x h is within read = find-number number n 0 l h ∙ ap (λ j. kept (λ x. number x == n) (slice_get l j)) (sym is) ∙ kept-at (λ x. number x == n) l i x within read
+
+-- what stands at a place is above the start, and is the one of its number
+
+number-above : {A : Type 0} (number : A → ℕ) (low : ℕ) (l : List A) (i : ℕ) (x : A) → rises_from number low l ≡ true → i < length l → x ≡ slice_index_or l i x → low < number x
+number-above number low [] i x h within read = absurd (omega arith)
+number-above number low (y ∷ ys) zero x h within read =
+    let e = and_parts (nat_lt low (number y)) (rises_from number (number y) ys) h in
+    subst (λ z. low < number z) (sym read) (ltb-true low (number y) e.0)
+number-above number low (y ∷ ys) (suc i) x h within read =
+    let e = and_parts (nat_lt low (number y)) (rises_from number (number y) ys) h in
+    let first : low < number y = ltb-true low (number y) e.0 in
+    let rest : number y < number x = number-above number (number y) ys i x e.1 (omega arith) read in
+    omega arith
+
+pub number-there : {A : Type 0} (number : A → ℕ) (n low : ℕ) (l : List A) (i : ℕ) (x : A) → rises_from number low l ≡ true → i < length l → x ≡ slice_index_or l i x → (number x == n) ≡ true
+    → find (λ y. number y == n) l ≡ Some x
+number-there number n low [] i x h within read same = absurd (omega arith)
+number-there number n low (y ∷ ys) zero x h within read same =
+    cond-true (number y == n) (Some y) (find (λ z. number z == n) ys) (ap (λ z. number z == n) (sym read) ∙ same) ∙ ap Some (sym read)
+number-there number n low (y ∷ ys) (suc i) x h within read same =
+    let e = and_parts (nat_lt low (number y)) (rises_from number (number y) ys) h in
+    let above : number y < number x = number-above number (number y) ys i x e.1 (omega arith) read in
+    let is : number x ≡ n = eqb-true (number x) n same in
+    cond-false (number y == n) (Some y) (find (λ z. number z == n) ys) (ne_eqb (number y) n (λ alike. omega arith))
+    ∙ number-there number n (number y) ys i x e.1 (omega arith) read same
+
+-- the place of a number above that of the last
+
+pub number-behind : {A : Type 0} (number : A → ℕ) (n low : ℕ) (l : List A) (i : ℕ) (x : A) → rises_from number low l ≡ true → i + 1 ≡ length l → x ≡ slice_index_or l i x → nat_lt (number x) n ≡ true
+    → length l ≡ number_place number n l
+number-behind number n low [] i x h last read below = absurd (omega arith)
+number-behind number n low (y ∷ []) zero x h last read below =
+    let first : nat_lt (number y) n ≡ true = ap (λ z. nat_lt (number z) n) (sym read) ∙ below in simp first
+number-behind number n low (y ∷ z ∷ zs) zero x h last read below = absurd (omega arith)
+number-behind number n low (y ∷ ys) (suc i) x h last read below =
+    let e = and_parts (nat_lt low (number y)) (rises_from number (number y) ys) h in
+    let above : number y < number x = number-above number (number y) ys i x e.1 (omega arith) read in
+    let under : number x < n = ltb-true (number x) n below in
+    let first : nat_lt (number y) n ≡ true = lt-ltb (number y) n (omega arith) in
+    let rest : length ys ≡ number_place number n ys = number-behind number n (number y) ys i x e.1 (omega arith) read below in
+    let more : suc (length ys) ≡ 1 + length ys = omega arith in
+    more ∙ ap (λ k. 1 + k) rest ∙ ap (λ t. cond (not (not t)) (1 + number_place number n ys) 0) (sym first)
 
 -- elements whose keys rise in order have keys that differ
 

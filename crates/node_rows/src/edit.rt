@@ -16,9 +16,10 @@ use crate::node::{Marks, Node};
 use crate::search::{child_place, node_place, place_of};
 use afp_base::NodeId;
 use afp_names::Name;
+use recent_places::RecentPlaces;
 
 /// Puts a node at the place of its id.
-pub(crate) fn put_node(nodes: &mut Vec<Node>, node: Node)
+pub(crate) fn put_node(nodes: &mut Vec<Node>, recent: &RecentPlaces, node: Node)
     requires rising { has_rising_ids nodes.old.items ≡ true }
     requires new { row_at nodes.old.items node.id ≡ None }
     requires room { vec_len nodes.old < vec_capacity nodes.old }
@@ -28,6 +29,7 @@ pub(crate) fn put_node(nodes: &mut Vec<Node>, node: Node)
 {
     let place = node_place(nodes.as_slice(), node.id);
     let _ = nodes.insert(place, node);
+    recent.inserted(place);
 }
 
 /// Puts a child at the place of its parent and key, and answers that place.

@@ -21,9 +21,10 @@ use crate::edit::{put_at, put_child, put_node, set_marks, take_child};
 use crate::kinds::Kinds;
 use crate::node::{Marks, Node};
 use crate::order::sort;
-use crate::search::{find_child, find_node, nth_child, sibling_places, siblings};
+use crate::search::{find_child, find_node, nth_child, search_node, sibling_places, siblings};
 use afp_base::{Bytes, NodeId, OutOfMemory};
 use afp_names::Name;
+use recent_places::RecentPlaces;
 use std::alloc::Global;
 use std::marker::Model;
 
@@ -37,6 +38,7 @@ pub struct Rows {
     children: Vec<Child>,
     kinds: Kinds,
     next: u64,
+    recent: RecentPlaces,
 }
 
 impl Model for Rows {
@@ -71,6 +73,7 @@ impl Rows {
             children,
             kinds,
             next,
+            recent: RecentPlaces::new(),
         })
     }
 
@@ -93,6 +96,7 @@ impl Rows {
             children,
             kinds,
             next,
+            recent: RecentPlaces::new(),
         })
     }
 
@@ -100,7 +104,7 @@ impl Rows {
     pub fn get(&self, id: NodeId) -> Option<&Node>
         ensures { option_copied result ≡ row_at self.now.rows id.0 }
     {
-        match find_node(self.nodes.as_slice(), id) {
+        match find_node(self.nodes.as_slice(), &self.recent, id) {
             Some(place) => Some(&self.nodes[place]),
             None => None,
         }
@@ -110,7 +114,7 @@ impl Rows {
     pub fn find(&self, id: NodeId) -> Option<usize>
         ensures { IsPlaceOf self.now.rows id.0 result }
     {
-        find_node(self.nodes.as_slice(), id)
+        find_node(self.nodes.as_slice(), &self.recent, id)
     }
 
     /// The child of a directory whose name has this key.
@@ -211,6 +215,7 @@ impl Rows {
             &mut self.nodes,
             &mut self.children,
             &mut self.kinds,
+            &self.recent,
             node,
             key,
         );
@@ -233,6 +238,7 @@ impl Rows {
             &mut self.nodes,
             &mut self.children,
             &mut self.kinds,
+            &self.recent,
             node,
             key,
         );
@@ -254,11 +260,12 @@ impl Rows {
         ensures next { self.new.next_id ≡ self.old.next_id }
         ensures spare { self.old.spare ≤ self.new.spare }
     {
-        match find_node(self.nodes.as_slice(), id) {
+        match find_node(self.nodes.as_slice(), &self.recent, id) {
             Some(place) => {
                 let stood = take_child(&mut self.children, &self.nodes[place]);
                 self.kinds.remove(stood);
                 let _node = self.nodes.remove(place);
+                self.recent.removed(place);
             }
             None => {}
         }
@@ -272,7 +279,7 @@ impl Rows {
         ensures next { self.new.next_id ≡ self.old.next_id }
         ensures spare { self.old.spare ≤ self.new.spare }
     {
-        match find_node(self.nodes.as_slice(), id) {
+        match find_node(self.nodes.as_slice(), &self.recent, id) {
             Some(place) => {
                 let node = &self.nodes[place];
                 let file = !node.dir;
@@ -315,7 +322,7 @@ fn is_file(nodes: &[Node], id: NodeId) -> bool
     requires { has_rising_ids nodes.now ≡ true }
     ensures { result ≡ is_file (row_at nodes.now id.0) }
 {
-    match find_node(nodes, id) {
+    match search_node(nodes, id) {
         Some(place) => {
             let node = &nodes[place];
             !node.dir
@@ -342,6 +349,7 @@ fn put_all(
     nodes: &mut Vec<Node>,
     children: &mut Vec<Child>,
     kinds: &mut Kinds,
+    recent: &RecentPlaces,
     node: Node,
     key: Bytes,
 )
@@ -371,5 +379,5 @@ fn put_all(
     };
     let stands = put_child(children, child);
     kinds.insert(stands, !node.dir);
-    put_node(nodes, node);
+    put_node(nodes, recent, node);
 }

@@ -1,5 +1,5 @@
-//! Places in sorted lists, found by halving.
-ghost use Rattle.std.specs.Prelude.{◌≡◌, ◌∷◌, ◌≤◌, ◌<◌, true, not, nat_lt, length, option_map, slice_get, bytes_eq, position, ◌==◌};
+//! Places in sorted lists: of an id where others were found of late, at the ends or by halving, and of all else by halving.
+ghost use Rattle.std.specs.Prelude.{◌≡◌, ◌∷◌, ◌≤◌, ◌<◌, true, Some, IfSome, not, nat_lt, length, option_map, slice_get, bytes_eq, position, ◌==◌};
 ghost use Rattle.std.specs.List.{position_or_len, find, filter, list_any, remove};
 ghost use Rattle.volume_spec.specs.Order.{stands_before, rises};
 ghost use Rattle.afp_base.specs.Apart.{are_apart};
@@ -12,19 +12,45 @@ use crate::child::Child;
 use crate::node::Node;
 use afp_base::NodeId;
 use afp_names::LONGEST_NAME;
+use recent_places::RecentPlaces;
 use std::cmp::Ordering;
 
-/// The place of the first node whose id is not below this one.
+/// The place of the first node whose id is not below this one. The ends are looked at first: a new node comes behind all others, and the root is the first.
 pub(crate) fn node_place(nodes: &[Node], id: NodeId) -> usize
     requires { has_rising_ids nodes.now ≡ true }
     ensures place { result ≡ position_or_len (λ row. not (nat_lt row.id id.0)) nodes.now }
     ensures within { result ≤ length nodes.now }
 {
-    nodes.partition_point(|node| node.id.0 < id.0)
+    let count = nodes.len();
+    if count == 0 {
+        return 0;
+    }
+    if is_below(&nodes[count - 1], id) {
+        return count;
+    }
+    if !is_below(&nodes[0], id) {
+        return 0;
+    }
+    halve_nodes(nodes, id)
+}
+
+/// The same, found by halving.
+fn halve_nodes(nodes: &[Node], id: NodeId) -> usize
+    requires { has_rising_ids nodes.now ≡ true }
+    ensures place { result ≡ position_or_len (λ row. not (nat_lt row.id id.0)) nodes.now }
+    ensures within { result ≤ length nodes.now }
+{
+    nodes.partition_point(|node| is_below(node, id))
+}
+
+fn is_below(node: &Node, id: NodeId) -> bool
+    ensures { result ≡ nat_lt node.now.id id.0 }
+{
+    node.id.0 < id.0
 }
 
 /// The place of the node of this id.
-pub(crate) fn find_node(nodes: &[Node], id: NodeId) -> Option<usize>
+pub(crate) fn search_node(nodes: &[Node], id: NodeId) -> Option<usize>
     requires { has_rising_ids nodes.now ≡ true }
     ensures { IsPlaceOf nodes.now id.0 result }
 {
@@ -42,6 +68,46 @@ fn has_id(node: &Node, id: NodeId) -> bool
     ensures { result ≡ (node.now.id == id.0) }
 {
     node.id.0 == id.0
+}
+
+/// Whether a node at a place has this id.
+fn is_there(nodes: &[Node], place: usize, id: NodeId) -> bool
+    requires { has_rising_ids nodes.now ≡ true }
+    ensures { result ≡ true → IsPlaceOf nodes.now id.0 (Some place) }
+{
+    place < nodes.len() && has_id(&nodes[place], id)
+}
+
+/// The place of the node of this id, if it is a recent one.
+fn find_again(nodes: &[Node], recent: &RecentPlaces, id: NodeId) -> Option<usize>
+    requires { has_rising_ids nodes.now ≡ true }
+    ensures { IfSome result (λ place. IsPlaceOf nodes.now id.0 (Some place)) }
+{
+    for place in recent.places() {
+        if is_there(nodes, place, id) {
+            recent.found(place);
+            return Some(place);
+        }
+    }
+    None
+}
+
+/// The place of the node of this id. It is searched for where it is no recent one.
+pub(crate) fn find_node(nodes: &[Node], recent: &RecentPlaces, id: NodeId) -> Option<usize>
+    requires { has_rising_ids nodes.now ≡ true }
+    ensures { IsPlaceOf nodes.now id.0 result }
+{
+    if let Some(place) = find_again(nodes, recent, id) {
+        return Some(place);
+    }
+    let found = search_node(nodes, id);
+    if let Some(place) = found {
+        // the first node is found by a look, so that it takes no place of another
+        if place > 0 {
+            recent.found(place);
+        }
+    }
+    found
 }
 
 /// Whether a child stands before this parent and key.

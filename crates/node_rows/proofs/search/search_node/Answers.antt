@@ -4,7 +4,7 @@ use Rattle.volume_spec.specs.SoundVolume.{has_rising_ids}
 use Rattle.volume_spec.specs.VolumeState.{Row}
 use Rattle.volume_spec.specs.Walk.{row_at}
 use Rattle.node_rows.proofs.Sorting.{number-past, number-at}
-use Rattle.node_rows.proofs.search.find_node.Goals as goal
+use Rattle.node_rows.proofs.search.search_node.Goals as goal
 
 pub returns-then-place-nodes : goal.returns-then-place-nodes
 unfolding has_rising_ids row_at
