@@ -34,6 +34,20 @@ pub fn by_id(rt: &HostRuntime, rows: &Rows, jumps: bool) -> io::Result<u64> {
     each(rt, since, CALLS, found)
 }
 
+/// A node by its id, three times one after the other, as a call asks for it to judge, to tell its record and to change it. The ids jump about.
+pub fn by_id_again(rt: &HostRuntime, rows: &Rows) -> io::Result<u64> {
+    let bound = children(rows).max(1);
+    let since = spent(rt)?;
+    let mut found: u32 = 0;
+    for turn in 0..CALLS {
+        let i = scattered(turn / 3, bound);
+        if rows.get(NodeId(i.saturating_add(17))).is_some() {
+            found = found.saturating_add(1);
+        }
+    }
+    each(rt, since, CALLS, found)
+}
+
 /// Keys of children of the root, in an order that jumps about, or from the first on.
 fn keys(alloc: Global, rows: &Rows, jumps: bool) -> io::Result<Vec<Bytes>> {
     let mut keys = Vec::new(alloc);

@@ -39,6 +39,12 @@ fn print_looks(rt: &HostRuntime, small: &Rows, large: &Rows) -> io::Result<()> {
     )?;
     print_row(
         rt,
+        "by id, three times, jumping",
+        looks::by_id_again(rt, small)?,
+        looks::by_id_again(rt, large)?,
+    )?;
+    print_row(
+        rt,
         "by key, in turn",
         looks::by_key(rt, small, false)?,
         looks::by_key(rt, large, false)?,
