@@ -1,3 +1,4 @@
+pub mod ValueChange
 pub mod Differences
 pub mod Touched
 pub mod TouchedOrder

@@ -9,13 +9,13 @@ ghost use Rattle.volume_changes.specs.Differences.{differences};
 ghost use Rattle.volume_changes.specs.Touched.{fork_keys};
 
 use crate::laws::{forks_change_by_block, records_are_found};
-use crate::noting::{appl_value, change_blocks, note};
+use crate::noting::{appl_value, change_blocks, note, push};
 use crate::touched::{ForkPlace, Mapping, four_bytes};
-use crate::transition::Transition;
-use afp_base::OutOfMemory;
+use crate::transition::{Transition, ValueChange};
+use afp_base::{Bytes, OutOfMemory};
 use record_keeper::Change;
 use std::alloc::Global;
-use volume_keeper_records::{appl_key, comment_key, head_key, head_value, icon_key, node_key};
+use volume_keeper_records::{appl_key, comment_key, head_bytes, head_key, icon_key, node_key};
 
 /// The change of the head's record.
 pub(crate) fn change_head<S: Transition>(
@@ -28,10 +28,14 @@ pub(crate) fn change_head<S: Transition>(
     ensures { OnOk result (changes.new.items ≡ changes.old.items ++ differences (records.head_key ∷ []) (kept_image (S.before step.now)) (kept_image (S.after step.now))) }
 {
     records_are_found();
-    let old = head_value(alloc, &step.head_before())?;
-    let new = head_value(alloc, &step.head_after())?;
+    let old = head_bytes(&step.head_before());
+    let new = head_bytes(&step.head_after());
+    if old.as_slice() == new.as_slice() {
+        return Ok(());
+    }
     let key = head_key(alloc)?;
-    note(changes, key, Some(old), Some(new))
+    let value = Bytes::of(alloc, &new)?;
+    push(changes, Change::Put { key, value })
 }
 
 /// The change of a node's record.
@@ -46,9 +50,17 @@ fn change_node<S: Transition>(
     ensures { OnOk result (changes.new.items ≡ changes.old.items ++ differences (records.node_key id ∷ []) (kept_image (S.before step.now)) (kept_image (S.after step.now))) }
 {
     records_are_found();
-    let values = step.node_values(alloc, id)?;
-    let key = node_key(alloc, id)?;
-    note(changes, key, values.before, values.after)
+    match step.node_change(alloc, id)? {
+        ValueChange::Same => Ok(()),
+        ValueChange::Gone => {
+            let key = node_key(alloc, id)?;
+            push(changes, Change::Remove { key })
+        }
+        ValueChange::Is(value) => {
+            let key = node_key(alloc, id)?;
+            push(changes, Change::Put { key, value })
+        }
+    }
 }
 
 /// The changes of the records of these nodes, in their order.

@@ -8,4 +8,4 @@ mod touched;
 mod transition;
 
 pub use touched::{ForkPlace, Mapping, Touched};
-pub use transition::{NodeValues, Transition, changes};
+pub use transition::{Transition, ValueChange, changes};

@@ -16,7 +16,7 @@ use volume_keeper_records::block_key;
 const TAG: usize = 4;
 
 /// Adds a change.
-fn push(changes: &mut Vec<Change>, change: Change) -> Result<(), OutOfMemory>
+pub(crate) fn push(changes: &mut Vec<Change>, change: Change) -> Result<(), OutOfMemory>
     ensures { OnOk result (changes.new.items ≡ changes.old.items ++ change ∷ []) }
 {
     changes.push(change)?;

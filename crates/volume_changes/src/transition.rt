@@ -10,6 +10,7 @@ ghost use Rattle.volume_changes.specs.Differences.{differences};
 ghost use Rattle.volume_changes.specs.Laws.{IsExact};
 ghost use Rattle.volume_changes.specs.Touched.{IsWithin, keys_of, node_value};
 ghost use Rattle.volume_changes.specs.TouchedOrder.{AreRising};
+ghost use Rattle.volume_changes.specs.ValueChange.{value_change};
 ghost use Rattle.volume_changes.specs.Values.{appl_tag, comment_value, fork_at, icon_value};
 
 use crate::kinds::{
@@ -23,11 +24,15 @@ use record_keeper::Change;
 use std::alloc::Global;
 use volume_keeper_records::Head;
 
-/// The values of a node's record, as it is and as it will be, each where the node is there.
+/// How the value of a record changes.
 #[derive(Drop)]
-pub struct NodeValues {
-    pub before: Option<Bytes>,
-    pub after: Option<Bytes>,
+pub enum ValueChange {
+    /// It stays as it is, or there is none as before.
+    Same,
+    /// There is none any more.
+    Gone,
+    /// It is these bytes from now on: others than before, or there was none.
+    Is(Bytes),
 }
 
 /// A volume as it is, and as it will be: what there is of each kind of record, in the version that is written. The one error is want of memory.
@@ -44,10 +49,9 @@ pub trait Transition {
     fn head_after(&self) -> Head
         ensures { result ≡ (tables_of version (after self.now)).head };
 
-    /// The values of a node's record.
-    fn node_values(&self, alloc: Global, id: u32) -> Result<NodeValues, OutOfMemory>
-        ensures old_value { IfOk result (λ values. values.before ≡ node_value (before self.now) id) }
-        ensures new_value { IfOk result (λ values. values.after ≡ node_value (after self.now) id) };
+    /// How the value of a node's record changes. A node that is not there has none.
+    fn node_change(&self, alloc: Global, id: u32) -> Result<ValueChange, OutOfMemory>
+        ensures { IfOk result (λ change. change ≡ value_change (node_value (before self.now) id) (node_value (after self.now) id)) };
 
     /// The blocks of a fork that differ, by rising index, as they will be. A fork that is not there has no bytes.
     fn blocks(&self, alloc: Global, id: u32, resource: bool) -> Result<Vec<Block>, OutOfMemory>

@@ -28,3 +28,4 @@ pub mod SeenLemmas
 pub mod Passing
 pub mod Loading
 pub mod Pieces
+mod Prefixes

@@ -1,5 +1,6 @@
 //! The record of a row.
-ghost use Rattle.std.specs.Prelude.{◌≡◌, ◌∷◌, ◌++◌, [], IfOk, OnOk};
+ghost use Rattle.std.specs.Prelude.{◌≡◌, ◌∷◌, ◌++◌, [], false, nat_eq, length, take, MatchOption, IfOk, OnOk};
+ghost use Rattle.std.specs.Cmp.Lexicographic.{pointwise};
 ghost use Rattle.volume_keeper_records.specs.Records.{head_record as the_head, node_record as the_node, block_record as the_block, comment_record as the_comment, icon_record as the_icon, appl_record as the_appl, head_key as the_head_key, node_key as the_node_key, block_key as the_block_key, comment_record_key as the_comment_key, appl_record_key as the_appl_key, record_of as the_record, icon_tag, flag_byte, privilege_bytes, word_bytes, long_bytes, quad_bytes, date_bytes};
 
 use crate::limits::{APPL, BLOCK, COMMENT, HEAD, ICON, NODE};
@@ -10,9 +11,6 @@ use std::alloc::Global;
 
 /// How many bytes a node's value has at most before its name.
 const BEFORE_NAME: usize = 79;
-
-/// How many bytes the value of a head has.
-const HEAD_VALUE: usize = 22;
 
 /// How many bytes a tag has.
 const TAG: usize = 4;
@@ -106,18 +104,20 @@ pub fn head_key(alloc: Global) -> Result<RecordKey, OutOfMemory>
     Ok(RecordKey::new(key))
 }
 
-/// The value of the record of a volume's head.
+/// The value of the record of a volume's head. It takes no memory.
 #[tactic(auto, unfolding(crate::specs::Records::head_record))]
-pub fn head_value(alloc: Global, head: &Head) -> Result<Bytes, OutOfMemory>
-    ensures { IfOk result (λ value. value ≡ (the_head head.now).value) }
+pub fn head_bytes(head: &Head) -> [u8; 22]
+    ensures { result ≡ (the_head head.now).value }
 {
-    let mut value = Bytes::with_room(alloc, HEAD_VALUE)?;
-    value.push_u16(head.version)?;
-    value.push_u32(head.created.cast_unsigned())?;
-    value.push_u32(head.modified.cast_unsigned())?;
-    value.push_u32(head.backup.cast_unsigned())?;
-    value.push_u64(head.next_id)?;
-    Ok(value)
+    let v = head.version.to_be_bytes();
+    let c = head.created.to_be_bytes();
+    let m = head.modified.to_be_bytes();
+    let b = head.backup.to_be_bytes();
+    let n = head.next_id.to_be_bytes();
+    [
+        v[0], v[1], c[0], c[1], c[2], c[3], m[0], m[1], m[2], m[3], b[0], b[1], b[2], b[3], n[0],
+        n[1], n[2], n[3], n[4], n[5], n[6], n[7],
+    ]
 }
 
 /// The record of a volume's head.
@@ -126,7 +126,7 @@ pub fn head_record(alloc: Global, head: &Head) -> Result<Record, OutOfMemory>
     ensures { IfOk result (λ r. r ≡ the_head head.now) }
 {
     let key = head_key(alloc)?;
-    let value = head_value(alloc, head)?;
+    let value = Bytes::of(alloc, &head_bytes(head))?;
     Ok(Record { key, value })
 }
 
@@ -184,6 +184,16 @@ fn push_privileges(bytes: &mut Bytes, privileges: &Option<Privileges>) -> Result
     }
 }
 
+/// What stands behind owner, group and rights in bytes that begin with them, where they are there.
+fn behind_privileges<'a>(privileges: &Option<Privileges>, bytes: &'a [u8]) -> Option<&'a [u8]>
+    ensures { MatchOption result (pointwise nat_eq (take (length (privilege_bytes privileges.now)) bytes.now) (privilege_bytes privileges.now) ≡ false) (λ rest. bytes.now ≡ privilege_bytes privileges.now ++ rest.now) }
+{
+    match privileges {
+        None => Some(bytes),
+        Some(privileges) => bytes.strip_prefix(&rights_of(privileges)),
+    }
+}
+
 /// The value of the record of a node, with this name in place of its own.
 #[tactic(auto, unfolding(crate::specs::Records::node_record))]
 pub fn node_value(alloc: Global, node: &Node, name: &[u8]) -> Result<Bytes, OutOfMemory>
@@ -196,6 +206,26 @@ pub fn node_value(alloc: Global, node: &Node, name: &[u8]) -> Result<Bytes, OutO
     push_privileges(&mut value, &node.privileges)?;
     value.extend(name)?;
     Ok(value)
+}
+
+/// Whether the value of the record of a node, with this name in place of its own, is these bytes. It takes no memory.
+#[tactic(auto, unfolding(crate::specs::Records::node_record))]
+pub fn is_node_value(node: &Node, name: &[u8], bytes: &[u8]) -> bool
+    ensures { result ≡ pointwise nat_eq (the_node (record node.now { name = name.now })).value bytes.now }
+{
+    let Some(rest) = bytes.strip_prefix(&front_of(node)) else {
+        return false;
+    };
+    let Some(rest) = rest.strip_prefix(&node.finder) else {
+        return false;
+    };
+    let Some(rest) = rest.strip_prefix(&forks_of(node)) else {
+        return false;
+    };
+    let Some(rest) = behind_privileges(&node.privileges, rest) else {
+        return false;
+    };
+    name == rest
 }
 
 /// The record of a node.

@@ -1,5 +1,7 @@
 //! Records of a volume from what is lent of it. The one error is want of memory.
-ghost use Rattle.std.specs.Prelude.{◌≡◌, [], option_map, IfOk};
+ghost use Rattle.std.specs.Prelude.{◌≡◌, [], nat_eq, option_map, IfOk};
+ghost use Rattle.std.specs.Cmp.Lexicographic.{pointwise};
+ghost use Rattle.volume_changes.specs.ValueChange.{value_change};
 ghost use Rattle.std.specs.Option.{option_copied};
 ghost use Rattle.desktop_db.specs.Kept.{shown_icon};
 ghost use Rattle.volume_keeper_records.specs.Image as image;
@@ -8,8 +10,9 @@ ghost use Rattle.volume_steps.specs.lemma.Records as bytes;
 
 use afp_base::{Bytes, OutOfMemory};
 use std::alloc::Global;
+use volume_changes::ValueChange;
 use volume_edits::WholeNode;
-use volume_keeper_records::{Head, Node, Privileges, VERSION, node_value};
+use volume_keeper_records::{Head, Node, Privileges, VERSION, is_node_value, node_value};
 use volume_tree::{NodeAfter, VolumeHead};
 
 /// How many bytes a tag has.
@@ -53,26 +56,57 @@ fn sized(alloc: Global, node: &NodeAfter<'_>, data_length: u64, resource_length:
     }
 }
 
-/// The value of a node's record, with the lengths of its forks in place of these.
+/// A node as its record has it, with the lengths of its forks, and with no name.
+fn node_of(alloc: Global, node: &WholeNode<'_>) -> Node
+    ensures { result ≡ record (image.node_of version node.now) { name = [] } }
+{
+    sized(
+        alloc,
+        &node.node,
+        node.data_fork.len(),
+        node.resource_fork.len(),
+    )
+}
+
+/// The value of a node's record.
 fn node_made(alloc: Global, node: &WholeNode<'_>) -> Result<Bytes, OutOfMemory>
     ensures { IfOk result (λ value. value ≡ (node_record (image.node_of version node.now)).value) }
 {
-    let data_length = node.data_fork.len();
-    let resource_length = node.resource_fork.len();
-    let sized = sized(alloc, &node.node, data_length, resource_length);
-    node_value(alloc, &sized, node.node.name.as_str().as_bytes())
+    let record = node_of(alloc, node);
+    node_value(alloc, &record, node.node.name.as_str().as_bytes())
 }
 
-/// The same, where the node is there.
-pub(crate) fn node_bytes(
-    alloc: Global,
-    node: Option<WholeNode<'_>>,
-) -> Result<Option<Bytes>, OutOfMemory>
-    ensures { IfOk result (λ value. value ≡ option_map (λ r. (node_record (image.node_of version r)).value) node.entry) }
+/// Whether the value of a node's record is these bytes. It takes no memory.
+fn is_node_made(alloc: Global, node: &WholeNode<'_>, bytes: &[u8]) -> bool
+    ensures { result ≡ pointwise nat_eq (node_record (image.node_of version node.now)).value bytes.now }
 {
-    match node {
-        Some(node) => Ok(Some(node_made(alloc, &node)?)),
-        None => Ok(None),
+    let record = node_of(alloc, node);
+    is_node_value(&record, node.node.name.as_str().as_bytes(), bytes)
+}
+
+/// How the value of a node's record changes.
+pub(crate) fn node_change(
+    alloc: Global,
+    before: Option<WholeNode<'_>>,
+    after: Option<WholeNode<'_>>,
+) -> Result<ValueChange, OutOfMemory>
+    ensures { IfOk result (λ change. change ≡ value_change (option_map (λ r. (node_record (image.node_of version r)).value) before.entry) (option_map (λ r. (node_record (image.node_of version r)).value) after.entry)) }
+{
+    let Some(after) = after else {
+        return match before {
+            Some(_) => Ok(ValueChange::Gone),
+            None => Ok(ValueChange::Same),
+        };
+    };
+    let value = node_made(alloc, &after)?;
+    match before {
+        Some(before) => {
+            if is_node_made(alloc, &before, value.as_slice()) {
+                return Ok(ValueChange::Same);
+            }
+            Ok(ValueChange::Is(value))
+        }
+        None => Ok(ValueChange::Is(value)),
     }
 }
 

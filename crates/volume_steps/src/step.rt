@@ -4,12 +4,12 @@ ghost use Rattle.volume_spec.specs.Edit.{after_call};
 ghost use Rattle.volume_spec.specs.EditLaws.{MayEditAll};
 ghost use Rattle.volume_edits.specs.Planned.{StandOn, edits_of};
 
-use crate::records::{copied_text, head_of, icon_bytes, node_bytes};
+use crate::records::{copied_text, head_of, icon_bytes, node_change};
 use afp_base::{Bytes, NodeId, OutOfMemory};
 use fork_bytes::Block;
 use std::alloc::Global;
 use std::marker::Model;
-use volume_changes::{NodeValues, Transition};
+use volume_changes::{Transition, ValueChange};
 use volume_edits::{Plan, WholeVolume};
 use volume_keeper_records::Head;
 
@@ -60,11 +60,9 @@ impl<'a> Transition for Step<'a> {
         head_of(self.whole.head_after(self.plan))
     }
 
-    fn node_values(&self, alloc: Global, id: u32) -> Result<NodeValues, OutOfMemory> {
+    fn node_change(&self, alloc: Global, id: u32) -> Result<ValueChange, OutOfMemory> {
         let step = self.whole.node_step(self.plan, NodeId(id));
-        let before = node_bytes(alloc, step.before)?;
-        let after = node_bytes(alloc, step.after)?;
-        Ok(NodeValues { before, after })
+        node_change(alloc, step.before, step.after)
     }
 
     fn blocks(&self, alloc: Global, id: u32, resource: bool) -> Result<Vec<Block>, OutOfMemory> {
