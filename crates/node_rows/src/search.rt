@@ -78,34 +78,43 @@ fn is_there(nodes: &[Node], place: usize, id: NodeId) -> bool
     place < nodes.len() && has_id(&nodes[place], id)
 }
 
-/// The place of the node of this id, if it is a recent one.
+/// The place of the node of this id, if it is a recent one behind the last.
 fn find_again(nodes: &[Node], recent: &RecentPlaces, id: NodeId) -> Option<usize>
     requires { has_rising_ids nodes.now ≡ true }
     ensures { IfSome result (λ place. IsPlaceOf nodes.now id.0 (Some place)) }
 {
-    for place in recent.places() {
-        if is_there(nodes, place, id) {
-            recent.found(place);
-            return Some(place);
-        }
-    }
-    None
+    let [_, second, third, fourth] = recent.places();
+    let place = if is_there(nodes, second, id) {
+        second
+    } else if is_there(nodes, third, id) {
+        third
+    } else if is_there(nodes, fourth, id) {
+        fourth
+    } else {
+        return None;
+    };
+    recent.found(place);
+    Some(place)
 }
 
-/// The place of the node of this id. It is searched for where it is no recent one.
+/// The place of the node of this id. It is searched for where it is neither the first, which is the root, nor a recent one.
 pub(crate) fn find_node(nodes: &[Node], recent: &RecentPlaces, id: NodeId) -> Option<usize>
     requires { has_rising_ids nodes.now ≡ true }
     ensures { IsPlaceOf nodes.now id.0 result }
 {
+    if is_there(nodes, 0, id) {
+        return Some(0);
+    }
+    let last = recent.last();
+    if is_there(nodes, last, id) {
+        return Some(last);
+    }
     if let Some(place) = find_again(nodes, recent, id) {
         return Some(place);
     }
     let found = search_node(nodes, id);
     if let Some(place) = found {
-        // the first node is found by a look, so that it takes no place of another
-        if place > 0 {
-            recent.found(place);
-        }
+        recent.found(place);
     }
     found
 }

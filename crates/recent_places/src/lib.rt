@@ -43,6 +43,12 @@ impl RecentPlaces {
         }
     }
 
+    /// The place at which something was found or put last.
+    pub fn last(&self) -> usize {
+        let [first, _, _, _] = self.places.get();
+        first
+    }
+
     /// The places, the last one first.
     pub fn places(&self) -> [usize; 4] {
         self.places.get()

@@ -15,6 +15,7 @@ fn what_is_found_comes_first(rt: HostRuntime) {
     let recent = four();
     assert_eq!(rt; recent.places(), [9, 7, 5, 3]);
     recent.found(5);
+    assert_eq!(rt; recent.last(), 5);
     assert_eq!(rt; recent.places(), [5, 9, 7, 3]);
     recent.found(9);
     assert_eq!(rt; recent.places(), [9, 5, 7, 3]);
