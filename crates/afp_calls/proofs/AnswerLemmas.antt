@@ -1,13 +1,13 @@
 -- What an answer of reading a request says.
 use Rattle.std.proofs.Common.{◌≡◌, ◌==◌, ℕ, true, false, List, [], ◌∷◌, length, get_or, Option, Some, None, Result, Ok, Err, MatchResult, refl, subst, inl, inr, arith}
 use Rattle.std.proofs.lemmas.Bool.{eqb-true}
-use Rattle.afp_calls_grammar.specs.declared.call.Call.{Call}
-use Rattle.afp_calls_grammar.specs.declared.call.ReadFault.{ReadFault}
-use Rattle.afp_calls_grammar.specs.declared.call.ReadFault.TheVariants as faults
+use Rattle.afp_calls_grammar.specs.declared.grammar.call.Call.{Call}
+use Rattle.afp_calls_grammar.specs.declared.grammar.call.ReadFault.{ReadFault}
+use Rattle.afp_calls_grammar.specs.declared.grammar.call.ReadFault.TheVariants as faults
 use Rattle.afp_base.specs.Bytes.{IsBytes}
-use Rattle.afp_calls_grammar.specs.Laws.{BeginsWithNoCommand, BeginsWithCommand, IsFunction, SpeltCanBeWritten, UnknownIsNotSpelt}
-use Rattle.afp_calls_grammar.specs.Spelt.{is_command, readers, spelt_call}
-use Rattle.afp_calls_fields.specs.Input.{Input}
+use Rattle.afp_calls_grammar.specs.grammar.Laws.{BeginsWithNoCommand, BeginsWithCommand, IsFunction, SpeltCanBeWritten, UnknownIsNotSpelt}
+use Rattle.afp_calls_grammar.specs.grammar.Spelt.{is_command, readers, spelt_call}
+use Rattle.afp_calls_grammar.specs.fields.Input.{Input}
 use Rattle.afp_calls.specs.Answer.{IsMisspelt, IsReadAnswer, IsReadRefusal}
 use Rattle.afp_calls.specs.lemma.Known.{Knows}
 

@@ -1,15 +1,15 @@
 -- What the groups read and write together.
 use Rattle.std.proofs.Common.{◌≡◌, ℕ, ℤ, List, [], ◌++◌, length, Some, Result, Ok, Err, refl, sym, ◌∙◌}
 use Rattle.afp_base.specs.declared.ids.ForkRef.{ForkRef}
-use Rattle.afp_calls_grammar.specs.declared.call.Call.{Call}
-use Rattle.afp_calls_grammar.specs.declared.call.Call.TheVariants.{Write, WriteExt, AddIcon}
-use Rattle.afp_calls_grammar.specs.Call.{layout_of, canonical_call, canonical_piece}
-use Rattle.afp_calls_grammar.specs.declared.call.ReadFault.{ReadFault}
-use Rattle.afp_calls_grammar.specs.declared.call.ReadFault.TheVariants as faults
-use Rattle.afp_calls_grammar.specs.Spelt.{readers}
-use Rattle.afp_calls_fields.specs.Input.{Input, bytes_left}
-use Rattle.afp_calls_fields.specs.Putting.{PutTogether, put_on}
-use Rattle.afp_calls_fields.specs.Taking.{GivesBy}
+use Rattle.afp_calls_grammar.specs.declared.grammar.call.Call.{Call}
+use Rattle.afp_calls_grammar.specs.declared.grammar.call.Call.TheVariants.{Write, WriteExt, AddIcon}
+use Rattle.afp_calls_grammar.specs.grammar.Call.{layout_of, canonical_call, canonical_piece}
+use Rattle.afp_calls_grammar.specs.declared.grammar.call.ReadFault.{ReadFault}
+use Rattle.afp_calls_grammar.specs.declared.grammar.call.ReadFault.TheVariants as faults
+use Rattle.afp_calls_grammar.specs.grammar.Spelt.{readers}
+use Rattle.afp_calls_grammar.specs.fields.Input.{Input, bytes_left}
+use Rattle.afp_calls_grammar.specs.fields.Putting.{PutTogether, put_on}
+use Rattle.afp_calls_grammar.specs.fields.Taking.{GivesBy}
 use Rattle.afp_calls.specs.declared.group.Group.{Group}
 use Rattle.afp_calls.specs.lemma.Known.{IsGroupWith, Knows, readers_of}
 

@@ -1,11 +1,11 @@
 -- What reading a request answers (this profile).
 use Rattle.std.specs.Prelude.{◌≡◌, ◌⊎◌, ℕ, List, Option, Some, None, Result, Ok, Err}
-use Rattle.afp_calls_grammar.specs.declared.call.Call.{Call}
-use Rattle.afp_calls_grammar.specs.declared.call.ReadFault.{ReadFault}
-use Rattle.afp_calls_grammar.specs.declared.call.ReadFault.TheVariants as faults
-use Rattle.afp_calls_grammar.specs.Call.{Spells, IsSpellable}
-use Rattle.afp_calls_grammar.specs.Laws.{BeginsWithCommand, BeginsWithNoCommand}
-use Rattle.afp_calls_grammar.specs.Spelt.{spelt_call}
+use Rattle.afp_calls_grammar.specs.declared.grammar.call.Call.{Call}
+use Rattle.afp_calls_grammar.specs.declared.grammar.call.ReadFault.{ReadFault}
+use Rattle.afp_calls_grammar.specs.declared.grammar.call.ReadFault.TheVariants as faults
+use Rattle.afp_calls_grammar.specs.grammar.Call.{Spells, IsSpellable}
+use Rattle.afp_calls_grammar.specs.grammar.Laws.{BeginsWithCommand, BeginsWithNoCommand}
+use Rattle.afp_calls_grammar.specs.grammar.Spelt.{spelt_call}
 
 -- the block and what comes with it spell the request, and no other; so it can be written again
 pub record IsRequest (block : List ℕ) (enclosed : Option (List ℕ)) (call : Call) : Type 0 where

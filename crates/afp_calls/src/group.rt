@@ -1,7 +1,7 @@
 //! The group of requests that a command belongs to.
 ghost use Rattle.afp_calls.specs.lemma.Known.{IsGroupWith};
 
-use afp_calls_grammar::commands::{
+use afp_calls_grammar::grammar::commands::{
     ADD_APPL, ADD_COMMENT, ADD_ICON, BYTE_RANGE_LOCK, BYTE_RANGE_LOCK_EXT, CLOSE_DIR, CLOSE_DT,
     CLOSE_FORK, CLOSE_VOL, COPY_FILE, CREATE_DIR, CREATE_FILE, CREATE_ID, DELETE, DELETE_ID,
     DISCONNECT_OLD_SESSION, ENUMERATE, ENUMERATE_EXT, ENUMERATE_EXT2, EXCHANGE_FILES, FLUSH,

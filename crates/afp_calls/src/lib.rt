@@ -6,6 +6,6 @@ mod group;
 mod read;
 mod write;
 
-pub use afp_calls_grammar::{Call, ReadFault, commands};
+pub use afp_calls_grammar::grammar::{Call, ReadFault, commands};
 pub use read::{is_command, read_call};
 pub use write::write_call;

@@ -1,27 +1,26 @@
 //! Reads requests.
 ghost use Rattle.std.specs.Prelude.{◌≡◌, Some, None, MatchResult};
 ghost use Rattle.std.specs.Option.{option_copied};
-ghost use Rattle.afp_calls_grammar.specs.declared.call.Call.{Call};
-ghost use Rattle.afp_calls_grammar.specs.declared.call.ReadFault.{ReadFault};
-ghost use Rattle.afp_calls_grammar.specs.Laws.{BeginsWithCommand, BeginsWithNoCommand};
-ghost use Rattle.afp_calls_grammar.specs.Spelt.{is_command, readers, spelt_call};
+ghost use Rattle.afp_calls_grammar.specs.declared.grammar.call.Call.{Call};
+ghost use Rattle.afp_calls_grammar.specs.declared.grammar.call.ReadFault.{ReadFault};
+ghost use Rattle.afp_calls_grammar.specs.grammar.Laws.{BeginsWithCommand, BeginsWithNoCommand};
+ghost use Rattle.afp_calls_grammar.specs.grammar.Spelt.{is_command, readers, spelt_call};
 ghost use Rattle.afp_calls.specs.Answer.{IsReadAnswer, IsReadRefusal};
 ghost use Rattle.afp_calls.specs.lemma.Known.{Knows};
 
 use crate::group::{Group, group_with};
 use afp_calls_desktop::read_desktop_call;
 use afp_calls_directory::read_directory_call;
-use afp_calls_fields::Fields;
 use afp_calls_file::read_file_call;
 use afp_calls_fork::read_fork_call;
-use afp_calls_grammar::laws::{one_request_for_each, what_is_spelt_can_be_written};
-use afp_calls_grammar::{Call, ReadFault};
+use afp_calls_grammar::grammar::laws::{one_request_for_each, what_is_spelt_can_be_written};
+use afp_calls_grammar::{Call, Fields, ReadFault};
 use afp_calls_session::read_session_call;
 use afp_calls_volume::read_volume_call;
 use std::alloc::Global;
 
 /// Whether a command has that number.
-#[tactic(auto, unfolding(afp_calls_grammar::specs::Spelt::is_command))]
+#[tactic(auto, unfolding(afp_calls_grammar::specs::grammar::Spelt::is_command))]
 pub fn is_command(number: u8) -> bool
     ensures { result ≡ is_command number }
 {

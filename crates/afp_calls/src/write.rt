@@ -1,17 +1,17 @@
 //! Writes requests.
 ghost use Rattle.std.specs.Prelude.{◌≡◌, ◌++◌, OnOk, OnErr};
-ghost use Rattle.afp_calls_grammar.specs.Call.{Spells, IsSpellable, IsTypedCall, layout_of, canonical_call, canonical_data, canonical_piece};
+ghost use Rattle.afp_calls_grammar.specs.grammar.Call.{Spells, IsSpellable, IsTypedCall, layout_of, canonical_call, canonical_data, canonical_piece};
 ghost use Rattle.afp_base.specs.Appended.{Keeps};
-ghost use Rattle.afp_calls_fields.specs.Putting.{PutsAll};
+ghost use Rattle.afp_calls_grammar.specs.fields.Putting.{PutsAll};
 
 use afp_base::{Bytes, OutOfMemory};
 use afp_calls_desktop::write_desktop_call;
 use afp_calls_directory::write_directory_call;
-use afp_calls_fields::laws::fields_are_put_together;
 use afp_calls_file::write_file_call;
 use afp_calls_fork::write_fork_call;
 use afp_calls_grammar::Call;
-use afp_calls_grammar::laws::what_is_written_is_read_again;
+use afp_calls_grammar::fields::laws::fields_are_put_together;
+use afp_calls_grammar::grammar::laws::what_is_written_is_read_again;
 use afp_calls_session::write_session_call;
 use afp_calls_volume::write_volume_call;
 use std::alloc::Global;
@@ -94,7 +94,7 @@ fn put_call(alloc: Global, out: &mut Bytes, call: &Call) -> Result<(), OutOfMemo
 }
 
 /// The piece that comes with a request, or nothing.
-#[tactic(auto, unfolding(afp_calls_grammar::specs::Call::canonical_piece))]
+#[tactic(auto, unfolding(afp_calls_grammar::specs::grammar::Call::canonical_piece))]
 fn piece_of<'a>(call: &'a Call) -> &'a [u8]
     ensures { result.now ≡ canonical_piece call.now }
 {

@@ -1,15 +1,16 @@
 //! The requests about APPL mappings (AFP Reference, "Desktop Database Commands").
 
 ghost use Rattle.std.specs.Prelude.{OnOk, OnErr};
-ghost use Rattle.afp_calls_grammar.specs.Appl.{add_appl, add_appl_reader, remove_appl, remove_appl_reader, get_appl, get_appl_reader};
-ghost use Rattle.afp_calls_fields.specs.lemma.Taking.{Gives};
+ghost use Rattle.afp_calls_grammar.specs.grammar.Appl.{add_appl, add_appl_reader, remove_appl, remove_appl_reader, get_appl, get_appl_reader};
+ghost use Rattle.afp_calls_grammar.specs.fields.lemma.Taking.{Gives};
 ghost use Rattle.afp_base.specs.Appended.{Keeps};
-ghost use Rattle.afp_calls_fields.specs.Putting.{PutsAll};
+ghost use Rattle.afp_calls_grammar.specs.fields.Putting.{PutsAll};
 
 use afp_base::{Bytes, NodeId, OutOfMemory};
-use afp_calls_fields::{Fields, put_bytes, put_command, put_pad, put_path, put_u16, put_u32};
-use afp_calls_grammar::commands::{ADD_APPL, GET_APPL, REMOVE_APPL};
-use afp_calls_grammar::{Call, ReadFault};
+use afp_calls_grammar::grammar::commands::{ADD_APPL, GET_APPL, REMOVE_APPL};
+use afp_calls_grammar::{
+    Call, Fields, ReadFault, put_bytes, put_command, put_pad, put_path, put_u16, put_u32,
+};
 use afp_names::Path;
 use std::alloc::Global;
 

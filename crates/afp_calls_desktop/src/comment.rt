@@ -1,17 +1,16 @@
 //! The requests about comments (AFP Reference, "Desktop Database Commands").
 
 ghost use Rattle.std.specs.Prelude.{◌<◌, length, OnOk, OnErr};
-ghost use Rattle.afp_calls_grammar.specs.Comment.{add_comment, add_comment_reader, remove_comment, remove_comment_reader, get_comment, get_comment_reader};
-ghost use Rattle.afp_calls_fields.specs.lemma.Taking.{Gives};
+ghost use Rattle.afp_calls_grammar.specs.grammar.Comment.{add_comment, add_comment_reader, remove_comment, remove_comment_reader, get_comment, get_comment_reader};
+ghost use Rattle.afp_calls_grammar.specs.fields.lemma.Taking.{Gives};
 ghost use Rattle.afp_base.specs.Appended.{Keeps};
-ghost use Rattle.afp_calls_fields.specs.Putting.{PutsAll};
+ghost use Rattle.afp_calls_grammar.specs.fields.Putting.{PutsAll};
 
 use afp_base::{Bytes, NodeId, OutOfMemory};
-use afp_calls_fields::{
-    Fields, put_command, put_even, put_pad, put_path, put_str, put_u16, put_u32,
+use afp_calls_grammar::grammar::commands::{ADD_COMMENT, GET_COMMENT, REMOVE_COMMENT};
+use afp_calls_grammar::{
+    Call, Fields, ReadFault, put_command, put_even, put_pad, put_path, put_str, put_u16, put_u32,
 };
-use afp_calls_grammar::commands::{ADD_COMMENT, GET_COMMENT, REMOVE_COMMENT};
-use afp_calls_grammar::{Call, ReadFault};
 use afp_names::Path;
 use std::alloc::Global;
 

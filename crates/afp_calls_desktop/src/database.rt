@@ -1,15 +1,14 @@
 //! The requests about the desktop database (AFP Reference, "Desktop Database Commands").
 
 ghost use Rattle.std.specs.Prelude.{OnOk, OnErr};
-ghost use Rattle.afp_calls_grammar.specs.Database.{open_dt, open_dt_reader, close_dt, close_dt_reader};
-ghost use Rattle.afp_calls_fields.specs.lemma.Taking.{Gives};
+ghost use Rattle.afp_calls_grammar.specs.grammar.Database.{open_dt, open_dt_reader, close_dt, close_dt_reader};
+ghost use Rattle.afp_calls_grammar.specs.fields.lemma.Taking.{Gives};
 ghost use Rattle.afp_base.specs.Appended.{Keeps};
-ghost use Rattle.afp_calls_fields.specs.Putting.{PutsAll};
+ghost use Rattle.afp_calls_grammar.specs.fields.Putting.{PutsAll};
 
 use afp_base::{Bytes, OutOfMemory, VolumeId};
-use afp_calls_fields::{Fields, put_command, put_pad, put_u16};
-use afp_calls_grammar::commands::{CLOSE_DT, OPEN_DT};
-use afp_calls_grammar::{Call, ReadFault};
+use afp_calls_grammar::grammar::commands::{CLOSE_DT, OPEN_DT};
+use afp_calls_grammar::{Call, Fields, ReadFault, put_command, put_pad, put_u16};
 
 /// Reads 48 FPOpenDT: pad, volume ID (2).
 pub(crate) fn read_open_dt<'a>(fields: &mut Fields<'a>) -> Result<Call<'a>, ReadFault>

@@ -1,9 +1,9 @@
 //! The requests about the desktop database, by their numbers and by their names.
-ghost use Rattle.afp_calls_grammar.specs.Call.{IsSpellable};
-ghost use Rattle.afp_calls_grammar.specs.Group.{Desktop};
-ghost use Rattle.afp_calls_grammar.specs.Readers.{desktop_readers};
-ghost use Rattle.afp_calls_fields.specs.Taking.{GivesBy};
-ghost use Rattle.afp_calls_fields.specs.Putting.{WritesCall};
+ghost use Rattle.afp_calls_grammar.specs.grammar.Call.{IsSpellable};
+ghost use Rattle.afp_calls_grammar.specs.grammar.Group.{Desktop};
+ghost use Rattle.afp_calls_grammar.specs.grammar.Readers.{desktop_readers};
+ghost use Rattle.afp_calls_grammar.specs.fields.Taking.{GivesBy};
+ghost use Rattle.afp_calls_grammar.specs.fields.Putting.{WritesCall};
 
 use crate::appl::{
     read_add_appl, read_get_appl, read_remove_appl, write_add_appl, write_get_appl,
@@ -19,12 +19,11 @@ use crate::icon::{
     write_get_icon_info,
 };
 use afp_base::{Bytes, OutOfMemory};
-use afp_calls_fields::Fields;
-use afp_calls_grammar::commands::{
+use afp_calls_grammar::grammar::commands::{
     ADD_APPL, ADD_COMMENT, ADD_ICON, CLOSE_DT, GET_APPL, GET_COMMENT, GET_ICON, GET_ICON_INFO,
     OPEN_DT, REMOVE_APPL, REMOVE_COMMENT,
 };
-use afp_calls_grammar::{Call, ReadFault};
+use afp_calls_grammar::{Call, Fields, ReadFault};
 use std::alloc::Global;
 
 /// Reads the request of that number, whose fields stand behind it; `Param` where no spelling of it

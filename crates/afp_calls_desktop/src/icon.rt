@@ -1,15 +1,16 @@
 //! The requests about icons (AFP Reference, "Desktop Database Commands").
 
 ghost use Rattle.std.specs.Prelude.{length, OnOk, OnErr, []};
-ghost use Rattle.afp_calls_grammar.specs.Icon.{add_icon, add_icon_reader, get_icon, get_icon_reader, get_icon_info, get_icon_info_reader};
-ghost use Rattle.afp_calls_fields.specs.lemma.Taking.{Gives};
+ghost use Rattle.afp_calls_grammar.specs.grammar.Icon.{add_icon, add_icon_reader, get_icon, get_icon_reader, get_icon_info, get_icon_info_reader};
+ghost use Rattle.afp_calls_grammar.specs.fields.lemma.Taking.{Gives};
 ghost use Rattle.afp_base.specs.Appended.{Keeps};
-ghost use Rattle.afp_calls_fields.specs.Putting.{PutsAll};
+ghost use Rattle.afp_calls_grammar.specs.fields.Putting.{PutsAll};
 
 use afp_base::{Bytes, OutOfMemory};
-use afp_calls_fields::{Fields, put_bytes, put_command, put_pad, put_u8, put_u16, put_u32};
-use afp_calls_grammar::commands::{ADD_ICON, GET_ICON, GET_ICON_INFO};
-use afp_calls_grammar::{Call, ReadFault};
+use afp_calls_grammar::grammar::commands::{ADD_ICON, GET_ICON, GET_ICON_INFO};
+use afp_calls_grammar::{
+    Call, Fields, ReadFault, put_bytes, put_command, put_pad, put_u8, put_u16, put_u32,
+};
 
 /// Reads 192 FPAddIcon: pad, desktop database reference number (2), file creator (4), file type (4),
 /// icon type (1), pad, icon tag (4), bitmap size (2). Enclosed: the icon's bitmap, of that size.

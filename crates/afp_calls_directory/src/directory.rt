@@ -1,15 +1,16 @@
 //! The requests about directories (AFP Reference, "Directory Commands").
 
 ghost use Rattle.std.specs.Prelude.{OnOk, OnErr};
-ghost use Rattle.afp_calls_grammar.specs.Directory.{create_dir, create_dir_reader, open_dir, open_dir_reader, close_dir, close_dir_reader};
-ghost use Rattle.afp_calls_fields.specs.lemma.Taking.{Gives};
+ghost use Rattle.afp_calls_grammar.specs.grammar.Directory.{create_dir, create_dir_reader, open_dir, open_dir_reader, close_dir, close_dir_reader};
+ghost use Rattle.afp_calls_grammar.specs.fields.lemma.Taking.{Gives};
 ghost use Rattle.afp_base.specs.Appended.{Keeps};
-ghost use Rattle.afp_calls_fields.specs.Putting.{PutsAll};
+ghost use Rattle.afp_calls_grammar.specs.fields.Putting.{PutsAll};
 
 use afp_base::{Bytes, NodeId, OutOfMemory, VolumeId};
-use afp_calls_fields::{Fields, put_command, put_pad, put_path, put_u16, put_u32};
-use afp_calls_grammar::commands::{CLOSE_DIR, CREATE_DIR, OPEN_DIR};
-use afp_calls_grammar::{Call, ReadFault};
+use afp_calls_grammar::grammar::commands::{CLOSE_DIR, CREATE_DIR, OPEN_DIR};
+use afp_calls_grammar::{
+    Call, Fields, ReadFault, put_command, put_pad, put_path, put_u16, put_u32,
+};
 use afp_names::Path;
 use std::alloc::Global;
 

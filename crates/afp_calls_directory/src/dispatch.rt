@@ -1,9 +1,9 @@
 //! The requests about directories, and on files and directories alike, by their numbers and by their names.
-ghost use Rattle.afp_calls_grammar.specs.Call.{IsSpellable};
-ghost use Rattle.afp_calls_grammar.specs.Group.{Directory};
-ghost use Rattle.afp_calls_grammar.specs.Readers.{directory_readers};
-ghost use Rattle.afp_calls_fields.specs.Taking.{GivesBy};
-ghost use Rattle.afp_calls_fields.specs.Putting.{WritesCall};
+ghost use Rattle.afp_calls_grammar.specs.grammar.Call.{IsSpellable};
+ghost use Rattle.afp_calls_grammar.specs.grammar.Group.{Directory};
+ghost use Rattle.afp_calls_grammar.specs.grammar.Readers.{directory_readers};
+ghost use Rattle.afp_calls_grammar.specs.fields.Taking.{GivesBy};
+ghost use Rattle.afp_calls_grammar.specs.fields.Putting.{WritesCall};
 
 use crate::directory::{
     read_close_dir, read_create_dir, read_open_dir, write_close_dir, write_create_dir,
@@ -22,12 +22,11 @@ use crate::place::{
     write_rename,
 };
 use afp_base::{Bytes, OutOfMemory};
-use afp_calls_fields::Fields;
-use afp_calls_grammar::commands::{
+use afp_calls_grammar::grammar::commands::{
     CLOSE_DIR, CREATE_DIR, DELETE, ENUMERATE, ENUMERATE_EXT, ENUMERATE_EXT2, GET_FILE_DIR_PARMS,
     MOVE_AND_RENAME, OPEN_DIR, RENAME, SET_DIR_PARMS, SET_FILE_DIR_PARMS,
 };
-use afp_calls_grammar::{Call, ReadFault};
+use afp_calls_grammar::{Call, Fields, ReadFault};
 use std::alloc::Global;
 
 /// Reads the request of that number, whose fields stand behind it; `Param` where no spelling of it

@@ -1,17 +1,16 @@
 //! The requests about parameters of directories and files (AFP Reference, "Combined Directory-File Commands").
 
 ghost use Rattle.std.specs.Prelude.{OnOk, OnErr};
-ghost use Rattle.afp_calls_grammar.specs.Parameters.{set_dir_parms, set_dir_parms_reader, get_file_dir_parms, get_file_dir_parms_reader, set_file_dir_parms, set_file_dir_parms_reader};
-ghost use Rattle.afp_calls_fields.specs.lemma.Taking.{Gives};
+ghost use Rattle.afp_calls_grammar.specs.grammar.Parameters.{set_dir_parms, set_dir_parms_reader, get_file_dir_parms, get_file_dir_parms_reader, set_file_dir_parms, set_file_dir_parms_reader};
+ghost use Rattle.afp_calls_grammar.specs.fields.lemma.Taking.{Gives};
 ghost use Rattle.afp_base.specs.Appended.{Keeps};
-ghost use Rattle.afp_calls_fields.specs.Putting.{PutsAll};
+ghost use Rattle.afp_calls_grammar.specs.fields.Putting.{PutsAll};
 
 use afp_base::{Bytes, NodeId, OutOfMemory, VolumeId};
-use afp_calls_fields::{
-    Fields, put_bytes, put_command, put_even, put_pad, put_path, put_u16, put_u32,
+use afp_calls_grammar::grammar::commands::{GET_FILE_DIR_PARMS, SET_DIR_PARMS, SET_FILE_DIR_PARMS};
+use afp_calls_grammar::{
+    Call, Fields, ReadFault, put_bytes, put_command, put_even, put_pad, put_path, put_u16, put_u32,
 };
-use afp_calls_grammar::commands::{GET_FILE_DIR_PARMS, SET_DIR_PARMS, SET_FILE_DIR_PARMS};
-use afp_calls_grammar::{Call, ReadFault};
 use afp_names::Path;
 use std::alloc::Global;
 

@@ -1,15 +1,16 @@
 //! The requests about where directories and files stand (AFP Reference, "Combined Directory-File Commands").
 
 ghost use Rattle.std.specs.Prelude.{OnOk, OnErr};
-ghost use Rattle.afp_calls_grammar.specs.Place.{delete, delete_reader, rename, rename_reader, move_and_rename, move_and_rename_reader};
-ghost use Rattle.afp_calls_fields.specs.lemma.Taking.{Gives};
+ghost use Rattle.afp_calls_grammar.specs.grammar.Place.{delete, delete_reader, rename, rename_reader, move_and_rename, move_and_rename_reader};
+ghost use Rattle.afp_calls_grammar.specs.fields.lemma.Taking.{Gives};
 ghost use Rattle.afp_base.specs.Appended.{Keeps};
-ghost use Rattle.afp_calls_fields.specs.Putting.{PutsAll};
+ghost use Rattle.afp_calls_grammar.specs.fields.Putting.{PutsAll};
 
 use afp_base::{Bytes, NodeId, OutOfMemory, VolumeId};
-use afp_calls_fields::{Fields, put_command, put_pad, put_path, put_u16, put_u32};
-use afp_calls_grammar::commands::{DELETE, MOVE_AND_RENAME, RENAME};
-use afp_calls_grammar::{Call, ReadFault};
+use afp_calls_grammar::grammar::commands::{DELETE, MOVE_AND_RENAME, RENAME};
+use afp_calls_grammar::{
+    Call, Fields, ReadFault, put_command, put_pad, put_path, put_u16, put_u32,
+};
 use afp_names::Path;
 use std::alloc::Global;
 

@@ -1,9 +1,9 @@
 //! The requests about files, by their numbers and by their names.
-ghost use Rattle.afp_calls_grammar.specs.Call.{IsSpellable};
-ghost use Rattle.afp_calls_grammar.specs.Group.{File};
-ghost use Rattle.afp_calls_grammar.specs.Readers.{file_readers};
-ghost use Rattle.afp_calls_fields.specs.Taking.{GivesBy};
-ghost use Rattle.afp_calls_fields.specs.Putting.{WritesCall};
+ghost use Rattle.afp_calls_grammar.specs.grammar.Call.{IsSpellable};
+ghost use Rattle.afp_calls_grammar.specs.grammar.Group.{File};
+ghost use Rattle.afp_calls_grammar.specs.grammar.Readers.{file_readers};
+ghost use Rattle.afp_calls_grammar.specs.fields.Taking.{GivesBy};
+ghost use Rattle.afp_calls_grammar.specs.fields.Putting.{WritesCall};
 
 use crate::file::{
     read_copy_file, read_create_file, read_exchange_files, read_set_file_parms, write_copy_file,
@@ -14,11 +14,10 @@ use crate::file_id::{
     write_resolve_id,
 };
 use afp_base::{Bytes, OutOfMemory};
-use afp_calls_fields::Fields;
-use afp_calls_grammar::commands::{
+use afp_calls_grammar::grammar::commands::{
     COPY_FILE, CREATE_FILE, CREATE_ID, DELETE_ID, EXCHANGE_FILES, RESOLVE_ID, SET_FILE_PARMS,
 };
-use afp_calls_grammar::{Call, ReadFault};
+use afp_calls_grammar::{Call, Fields, ReadFault};
 use std::alloc::Global;
 
 /// Reads the request of that number, whose fields stand behind it; `Param` where no spelling of it

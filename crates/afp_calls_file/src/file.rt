@@ -1,22 +1,24 @@
 //! The requests about files (AFP Reference, "File Commands").
 
 ghost use Rattle.std.specs.Prelude.{OnOk, OnErr, [], ◌∷◌};
-ghost use Rattle.afp_calls_grammar.specs.File.{create_file, create_file_reader, copy_file, copy_file_reader, set_file_parms, set_file_parms_reader, exchange_files, exchange_files_reader};
-ghost use Rattle.afp_calls_grammar.specs.Reading.{Alone, words};
-ghost use Rattle.afp_calls_grammar.specs.Words.{Even, Pathname, Tail};
-ghost use Rattle.afp_calls_grammar.specs.declared.call.Call.TheVariants as calls;
-ghost use Rattle.afp_calls_fields.specs.Input.{read_on};
-ghost use Rattle.afp_calls_fields.specs.Taking.{IsFound};
-ghost use Rattle.afp_calls_fields.specs.lemma.Taking.{Gives};
+ghost use Rattle.afp_calls_grammar.specs.grammar.File.{create_file, create_file_reader, copy_file, copy_file_reader, set_file_parms, set_file_parms_reader, exchange_files, exchange_files_reader};
+ghost use Rattle.afp_calls_grammar.specs.grammar.Reading.{Alone, words};
+ghost use Rattle.afp_calls_grammar.specs.grammar.Words.{Even, Pathname, Tail};
+ghost use Rattle.afp_calls_grammar.specs.declared.grammar.call.Call.TheVariants as calls;
+ghost use Rattle.afp_calls_grammar.specs.fields.Input.{read_on};
+ghost use Rattle.afp_calls_grammar.specs.fields.Taking.{IsFound};
+ghost use Rattle.afp_calls_grammar.specs.fields.lemma.Taking.{Gives};
 ghost use Rattle.afp_base.specs.Appended.{Keeps};
-ghost use Rattle.afp_calls_fields.specs.Putting.{PutsAll};
+ghost use Rattle.afp_calls_grammar.specs.fields.Putting.{PutsAll};
 
 use afp_base::{Bytes, NodeId, OutOfMemory, VolumeId};
-use afp_calls_fields::{
-    Fields, put_bytes, put_command, put_even, put_pad, put_path, put_u8, put_u16, put_u32,
+use afp_calls_grammar::grammar::commands::{
+    COPY_FILE, CREATE_FILE, EXCHANGE_FILES, SET_FILE_PARMS,
 };
-use afp_calls_grammar::commands::{COPY_FILE, CREATE_FILE, EXCHANGE_FILES, SET_FILE_PARMS};
-use afp_calls_grammar::{Call, ReadFault};
+use afp_calls_grammar::{
+    Call, Fields, ReadFault, put_bytes, put_command, put_even, put_pad, put_path, put_u8, put_u16,
+    put_u32,
+};
 use afp_names::Path;
 use std::alloc::Global;
 

@@ -1,15 +1,16 @@
 //! The requests about ids of files (AFP Reference, "File Commands").
 
 ghost use Rattle.std.specs.Prelude.{OnOk, OnErr};
-ghost use Rattle.afp_calls_grammar.specs.FileId.{create_id, create_id_reader, delete_id, delete_id_reader, resolve_id, resolve_id_reader};
-ghost use Rattle.afp_calls_fields.specs.lemma.Taking.{Gives};
+ghost use Rattle.afp_calls_grammar.specs.grammar.FileId.{create_id, create_id_reader, delete_id, delete_id_reader, resolve_id, resolve_id_reader};
+ghost use Rattle.afp_calls_grammar.specs.fields.lemma.Taking.{Gives};
 ghost use Rattle.afp_base.specs.Appended.{Keeps};
-ghost use Rattle.afp_calls_fields.specs.Putting.{PutsAll};
+ghost use Rattle.afp_calls_grammar.specs.fields.Putting.{PutsAll};
 
 use afp_base::{Bytes, NodeId, OutOfMemory, VolumeId};
-use afp_calls_fields::{Fields, put_command, put_pad, put_path, put_u16, put_u32};
-use afp_calls_grammar::commands::{CREATE_ID, DELETE_ID, RESOLVE_ID};
-use afp_calls_grammar::{Call, ReadFault};
+use afp_calls_grammar::grammar::commands::{CREATE_ID, DELETE_ID, RESOLVE_ID};
+use afp_calls_grammar::{
+    Call, Fields, ReadFault, put_command, put_pad, put_path, put_u16, put_u32,
+};
 use afp_names::Path;
 use std::alloc::Global;
 

@@ -1,9 +1,9 @@
 //! The requests about open forks, by their numbers and by their names.
-ghost use Rattle.afp_calls_grammar.specs.Call.{IsSpellable};
-ghost use Rattle.afp_calls_grammar.specs.Group.{Fork};
-ghost use Rattle.afp_calls_grammar.specs.Readers.{fork_readers};
-ghost use Rattle.afp_calls_fields.specs.Taking.{GivesBy};
-ghost use Rattle.afp_calls_fields.specs.Putting.{WritesCall};
+ghost use Rattle.afp_calls_grammar.specs.grammar.Call.{IsSpellable};
+ghost use Rattle.afp_calls_grammar.specs.grammar.Group.{Fork};
+ghost use Rattle.afp_calls_grammar.specs.grammar.Readers.{fork_readers};
+ghost use Rattle.afp_calls_grammar.specs.fields.Taking.{GivesBy};
+ghost use Rattle.afp_calls_grammar.specs.fields.Putting.{WritesCall};
 
 use crate::fork::{
     read_close_fork, read_flush_fork, read_get_fork_parms, read_open_fork, read_set_fork_parms,
@@ -19,12 +19,11 @@ use crate::lock::{
     write_byte_range_lock_ext,
 };
 use afp_base::{Bytes, OutOfMemory};
-use afp_calls_fields::Fields;
-use afp_calls_grammar::commands::{
+use afp_calls_grammar::grammar::commands::{
     BYTE_RANGE_LOCK, BYTE_RANGE_LOCK_EXT, CLOSE_FORK, FLUSH_FORK, GET_FORK_PARMS, OPEN_FORK, READ,
     READ_EXT, SET_FORK_PARMS, WRITE, WRITE_EXT,
 };
-use afp_calls_grammar::{Call, ReadFault};
+use afp_calls_grammar::{Call, Fields, ReadFault};
 use std::alloc::Global;
 
 /// Reads the request of that number, whose fields stand behind it; `Param` where no spelling of it

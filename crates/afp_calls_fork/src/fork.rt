@@ -1,19 +1,18 @@
 //! The requests about open forks (AFP Reference, "Fork Commands").
 
 ghost use Rattle.std.specs.Prelude.{OnOk, OnErr};
-ghost use Rattle.afp_calls_grammar.specs.Fork.{open_fork, open_fork_reader, close_fork, close_fork_reader, flush_fork, flush_fork_reader, get_fork_parms, get_fork_parms_reader, set_fork_parms, set_fork_parms_reader};
-ghost use Rattle.afp_calls_fields.specs.lemma.Taking.{Gives};
+ghost use Rattle.afp_calls_grammar.specs.grammar.Fork.{open_fork, open_fork_reader, close_fork, close_fork_reader, flush_fork, flush_fork_reader, get_fork_parms, get_fork_parms_reader, set_fork_parms, set_fork_parms_reader};
+ghost use Rattle.afp_calls_grammar.specs.fields.lemma.Taking.{Gives};
 ghost use Rattle.afp_base.specs.Appended.{Keeps};
-ghost use Rattle.afp_calls_fields.specs.Putting.{PutsAll};
+ghost use Rattle.afp_calls_grammar.specs.fields.Putting.{PutsAll};
 
 use afp_base::{Bytes, ForkRef, NodeId, OutOfMemory, VolumeId};
-use afp_calls_fields::{
-    Fields, put_bytes, put_command, put_pad, put_path, put_u8, put_u16, put_u32,
-};
-use afp_calls_grammar::commands::{
+use afp_calls_grammar::grammar::commands::{
     CLOSE_FORK, FLUSH_FORK, GET_FORK_PARMS, OPEN_FORK, SET_FORK_PARMS,
 };
-use afp_calls_grammar::{Call, ReadFault};
+use afp_calls_grammar::{
+    Call, Fields, ReadFault, put_bytes, put_command, put_pad, put_path, put_u8, put_u16, put_u32,
+};
 use afp_names::Path;
 use std::alloc::Global;
 

@@ -1,15 +1,16 @@
 //! The requests about the bytes of a fork (AFP Reference, "Fork Commands").
 
 ghost use Rattle.std.specs.Prelude.{◌≡◌, OnOk, OnErr, []};
-ghost use Rattle.afp_calls_grammar.specs.ForkBytes.{read, read_reader, read_ext, read_ext_reader, write, write_reader, write_ext, write_ext_reader, piece_size};
-ghost use Rattle.afp_calls_fields.specs.lemma.Taking.{Gives};
+ghost use Rattle.afp_calls_grammar.specs.grammar.ForkBytes.{read, read_reader, read_ext, read_ext_reader, write, write_reader, write_ext, write_ext_reader, piece_size};
+ghost use Rattle.afp_calls_grammar.specs.fields.lemma.Taking.{Gives};
 ghost use Rattle.afp_base.specs.Appended.{Keeps};
-ghost use Rattle.afp_calls_fields.specs.Putting.{PutsAll};
+ghost use Rattle.afp_calls_grammar.specs.fields.Putting.{PutsAll};
 
 use afp_base::{Bytes, ForkRef, OutOfMemory};
-use afp_calls_fields::{Fields, put_command, put_i32, put_i64, put_pad, put_u8, put_u16, put_u32};
-use afp_calls_grammar::commands::{READ, READ_EXT, WRITE, WRITE_EXT};
-use afp_calls_grammar::{Call, ReadFault};
+use afp_calls_grammar::grammar::commands::{READ, READ_EXT, WRITE, WRITE_EXT};
+use afp_calls_grammar::{
+    Call, Fields, ReadFault, put_command, put_i32, put_i64, put_pad, put_u8, put_u16, put_u32,
+};
 
 /// Reads 27 FPRead: pad, open fork reference number (2), offset (4, signed), request count (4),
 /// newline mask (1), newline character (1).

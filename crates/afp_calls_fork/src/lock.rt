@@ -1,15 +1,14 @@
 //! The requests about byte-range locks (AFP Reference, "Fork Commands").
 
 ghost use Rattle.std.specs.Prelude.{length, OnOk, OnErr};
-ghost use Rattle.afp_calls_grammar.specs.Lock.{byte_range_lock, byte_range_lock_reader, byte_range_lock_ext, byte_range_lock_ext_reader};
-ghost use Rattle.afp_calls_fields.specs.lemma.Taking.{Gives};
+ghost use Rattle.afp_calls_grammar.specs.grammar.Lock.{byte_range_lock, byte_range_lock_reader, byte_range_lock_ext, byte_range_lock_ext_reader};
+ghost use Rattle.afp_calls_grammar.specs.fields.lemma.Taking.{Gives};
 ghost use Rattle.afp_base.specs.Appended.{Keeps};
-ghost use Rattle.afp_calls_fields.specs.Putting.{PutsAll};
+ghost use Rattle.afp_calls_grammar.specs.fields.Putting.{PutsAll};
 
 use afp_base::{Bytes, ForkRef, OutOfMemory};
-use afp_calls_fields::{Fields, put_command, put_i32, put_i64, put_u8, put_u16};
-use afp_calls_grammar::commands::{BYTE_RANGE_LOCK, BYTE_RANGE_LOCK_EXT};
-use afp_calls_grammar::{Call, ReadFault};
+use afp_calls_grammar::grammar::commands::{BYTE_RANGE_LOCK, BYTE_RANGE_LOCK_EXT};
+use afp_calls_grammar::{Call, Fields, ReadFault, put_command, put_i32, put_i64, put_u8, put_u16};
 
 /// Reads 1 FPByteRangeLock: flags (1; bit 0 unlocks, bit 7 counts from the fork's end), open fork
 /// reference number (2), offset (4, signed), length (4, signed).

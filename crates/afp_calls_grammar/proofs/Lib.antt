@@ -1,9 +1,2 @@
-pub mod SpellingLemmas
-pub mod ReaderLemmas
-pub mod SessionSound
-pub mod VolumeSound
-pub mod DirectorySound
-pub mod FileSound
-pub mod ForkSound
-pub mod DesktopSound
-pub mod CallLemmas
+pub mod OfGrammar
+pub mod OfFields

@@ -1,9 +1,9 @@
 //! The requests about the session: logging in and out, tokens, and what the server tells of itself and of users, by their numbers and by their names.
-ghost use Rattle.afp_calls_grammar.specs.Call.{IsSpellable};
-ghost use Rattle.afp_calls_grammar.specs.Group.{Session};
-ghost use Rattle.afp_calls_grammar.specs.Readers.{session_readers};
-ghost use Rattle.afp_calls_fields.specs.Taking.{GivesBy};
-ghost use Rattle.afp_calls_fields.specs.Putting.{WritesCall};
+ghost use Rattle.afp_calls_grammar.specs.grammar.Call.{IsSpellable};
+ghost use Rattle.afp_calls_grammar.specs.grammar.Group.{Session};
+ghost use Rattle.afp_calls_grammar.specs.grammar.Readers.{session_readers};
+ghost use Rattle.afp_calls_grammar.specs.fields.Taking.{GivesBy};
+ghost use Rattle.afp_calls_grammar.specs.fields.Putting.{WritesCall};
 
 use crate::login::{
     read_login, read_login_ext, read_logout, write_login, write_login_ext, write_logout,
@@ -21,12 +21,11 @@ use crate::user::{
     write_map_name,
 };
 use afp_base::{Bytes, OutOfMemory};
-use afp_calls_fields::Fields;
-use afp_calls_grammar::commands::{
+use afp_calls_grammar::grammar::commands::{
     DISCONNECT_OLD_SESSION, GET_SESSION_TOKEN, GET_SRVR_INFO, GET_SRVR_MSG, GET_SRVR_PARMS,
     GET_USER_INFO, LOGIN, LOGIN_EXT, LOGOUT, MAP_ID, MAP_NAME,
 };
-use afp_calls_grammar::{Call, ReadFault};
+use afp_calls_grammar::{Call, Fields, ReadFault};
 use std::alloc::Global;
 
 /// Reads the request of that number, whose fields stand behind it; `Param` where no spelling of it

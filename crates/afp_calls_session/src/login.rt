@@ -2,23 +2,22 @@
 
 ghost use Rattle.std.specs.Prelude.{◌≡◌, ◌<◌, ◌^◌, [], ◌∷◌, length, OnOk, OnErr};
 ghost use Rattle.afp_names.specs.Path.{long_names, utf8_names};
-ghost use Rattle.afp_calls_grammar.specs.Words.{Counted, Even, Tail, Within, count_size, counted_field};
-ghost use Rattle.afp_calls_grammar.specs.Reading.{Alone, words};
-ghost use Rattle.afp_calls_grammar.specs.declared.call.Call.TheVariants.{LoginExt};
-ghost use Rattle.afp_calls_grammar.specs.Login.{login, login_reader, login_ext, login_ext_reader, logout, logout_reader};
-ghost use Rattle.afp_calls_fields.specs.Input.{read_on};
-ghost use Rattle.afp_calls_fields.specs.Taking.{IsFound, Takes};
-ghost use Rattle.afp_calls_fields.specs.lemma.Taking.{Gives};
+ghost use Rattle.afp_calls_grammar.specs.grammar.Words.{Counted, Even, Tail, Within, count_size, counted_field};
+ghost use Rattle.afp_calls_grammar.specs.grammar.Reading.{Alone, words};
+ghost use Rattle.afp_calls_grammar.specs.declared.grammar.call.Call.TheVariants.{LoginExt};
+ghost use Rattle.afp_calls_grammar.specs.grammar.Login.{login, login_reader, login_ext, login_ext_reader, logout, logout_reader};
+ghost use Rattle.afp_calls_grammar.specs.fields.Input.{read_on};
+ghost use Rattle.afp_calls_grammar.specs.fields.Taking.{IsFound, Takes};
+ghost use Rattle.afp_calls_grammar.specs.fields.lemma.Taking.{Gives};
 ghost use Rattle.afp_base.specs.Appended.{Keeps};
-ghost use Rattle.afp_calls_fields.specs.Putting.{PutsAll, Puts};
+ghost use Rattle.afp_calls_grammar.specs.fields.Putting.{PutsAll, Puts};
 
 use afp_base::{Bytes, OutOfMemory};
-use afp_calls_fields::{
-    Fields, put_bytes, put_command, put_even, put_literal, put_pad, put_str, put_text, put_u8,
-    put_u16,
+use afp_calls_grammar::grammar::commands::{LOGIN, LOGIN_EXT, LOGOUT};
+use afp_calls_grammar::{
+    Call, Fields, ReadFault, put_bytes, put_command, put_even, put_literal, put_pad, put_str,
+    put_text, put_u8, put_u16,
 };
-use afp_calls_grammar::commands::{LOGIN, LOGIN_EXT, LOGOUT};
-use afp_calls_grammar::{Call, ReadFault};
 use afp_names::{LONG_NAMES, UTF8_NAMES};
 use std::alloc::Global;
 

@@ -1,15 +1,14 @@
 //! The requests about the server (AFP Reference, "Server Commands").
 
 ghost use Rattle.std.specs.Prelude.{OnOk, OnErr};
-ghost use Rattle.afp_calls_grammar.specs.Server.{get_srvr_info, get_srvr_info_reader, get_srvr_parms, get_srvr_parms_reader, get_srvr_msg, get_srvr_msg_reader};
-ghost use Rattle.afp_calls_fields.specs.lemma.Taking.{Gives};
+ghost use Rattle.afp_calls_grammar.specs.grammar.Server.{get_srvr_info, get_srvr_info_reader, get_srvr_parms, get_srvr_parms_reader, get_srvr_msg, get_srvr_msg_reader};
+ghost use Rattle.afp_calls_grammar.specs.fields.lemma.Taking.{Gives};
 ghost use Rattle.afp_base.specs.Appended.{Keeps};
-ghost use Rattle.afp_calls_fields.specs.Putting.{PutsAll};
+ghost use Rattle.afp_calls_grammar.specs.fields.Putting.{PutsAll};
 
 use afp_base::{Bytes, OutOfMemory};
-use afp_calls_fields::{Fields, put_command, put_pad, put_u16};
-use afp_calls_grammar::commands::{GET_SRVR_INFO, GET_SRVR_MSG, GET_SRVR_PARMS};
-use afp_calls_grammar::{Call, ReadFault};
+use afp_calls_grammar::grammar::commands::{GET_SRVR_INFO, GET_SRVR_MSG, GET_SRVR_PARMS};
+use afp_calls_grammar::{Call, Fields, ReadFault, put_command, put_pad, put_u16};
 
 /// Reads 15 FPGetSrvrInfo: pad, which may be missing.
 pub(crate) fn read_get_srvr_info<'a>(fields: &mut Fields<'a>) -> Result<Call<'a>, ReadFault>

@@ -1,18 +1,20 @@
 //! The requests about tokens of sessions (AFP Reference, "Reconnecting").
 
 ghost use Rattle.std.specs.Prelude.{◌≡◌, ◌<◌, ◌^◌, length, OnOk, OnErr};
-ghost use Rattle.afp_calls_grammar.specs.Token.{get_session_token, get_session_token_reader, disconnect_old_session, disconnect_old_session_reader, has_stamp};
-ghost use Rattle.afp_calls_fields.specs.lemma.Taking.{Gives};
+ghost use Rattle.afp_calls_grammar.specs.grammar.Token.{get_session_token, get_session_token_reader, disconnect_old_session, disconnect_old_session_reader, has_stamp};
+ghost use Rattle.afp_calls_grammar.specs.fields.lemma.Taking.{Gives};
 ghost use Rattle.afp_base.specs.Appended.{Keeps};
-ghost use Rattle.afp_calls_fields.specs.Putting.{PutsAll};
+ghost use Rattle.afp_calls_grammar.specs.fields.Putting.{PutsAll};
 
 use afp_base::{Bytes, OutOfMemory};
-use afp_calls_fields::{
-    Fields, put_bytes, put_command, put_count, put_long_text, put_optional, put_pad, put_u16,
+use afp_calls_grammar::grammar::commands::{DISCONNECT_OLD_SESSION, GET_SESSION_TOKEN};
+use afp_calls_grammar::grammar::kinds::{
+    LOGIN_WITH_TIME_AND_ID, LOGIN_WITHOUT_ID, RECONN_WITH_TIME_AND_ID,
 };
-use afp_calls_grammar::commands::{DISCONNECT_OLD_SESSION, GET_SESSION_TOKEN};
-use afp_calls_grammar::kinds::{LOGIN_WITH_TIME_AND_ID, LOGIN_WITHOUT_ID, RECONN_WITH_TIME_AND_ID};
-use afp_calls_grammar::{Call, ReadFault};
+use afp_calls_grammar::{
+    Call, Fields, ReadFault, put_bytes, put_command, put_count, put_long_text, put_optional,
+    put_pad, put_u16,
+};
 use std::alloc::Global;
 
 /// Reads 64 FPGetSessionToken: pad, type (2; 0 to 4), ID length (4), time stamp (4; with types 3

@@ -1,18 +1,19 @@
 //! The requests about users (AFP Reference, "User Commands").
 
 ghost use Rattle.std.specs.Prelude.{◌≡◌, ◌<◌, ◌^◌, length, OnOk, OnErr};
-ghost use Rattle.afp_calls_grammar.specs.Words.{Counted, counted_field};
-ghost use Rattle.afp_calls_grammar.specs.User.{get_user_info, get_user_info_reader, map_id, map_id_reader, map_name, map_name_reader, name_count};
-ghost use Rattle.afp_calls_fields.specs.Taking.{Takes};
-ghost use Rattle.afp_calls_fields.specs.lemma.Taking.{Gives};
+ghost use Rattle.afp_calls_grammar.specs.grammar.Words.{Counted, counted_field};
+ghost use Rattle.afp_calls_grammar.specs.grammar.User.{get_user_info, get_user_info_reader, map_id, map_id_reader, map_name, map_name_reader, name_count};
+ghost use Rattle.afp_calls_grammar.specs.fields.Taking.{Takes};
+ghost use Rattle.afp_calls_grammar.specs.fields.lemma.Taking.{Gives};
 ghost use Rattle.afp_base.specs.Appended.{Keeps};
-ghost use Rattle.afp_calls_fields.specs.Putting.{PutsAll, Puts};
+ghost use Rattle.afp_calls_grammar.specs.fields.Putting.{PutsAll, Puts};
 
 use afp_base::{Bytes, OutOfMemory};
-use afp_calls_fields::{Fields, put_command, put_str, put_text, put_u8, put_u16, put_u32};
-use afp_calls_grammar::commands::{GET_USER_INFO, MAP_ID, MAP_NAME};
-use afp_calls_grammar::kinds::{FIRST_FUNCTION, LAST_FUNCTION, LAST_UTF8_FUNCTION};
-use afp_calls_grammar::{Call, ReadFault};
+use afp_calls_grammar::grammar::commands::{GET_USER_INFO, MAP_ID, MAP_NAME};
+use afp_calls_grammar::grammar::kinds::{FIRST_FUNCTION, LAST_FUNCTION, LAST_UTF8_FUNCTION};
+use afp_calls_grammar::{
+    Call, Fields, ReadFault, put_command, put_str, put_text, put_u8, put_u16, put_u32,
+};
 use std::alloc::Global;
 
 /// Reads 37 FPGetUserInfo: flags (1; bit 0 means this user), user ID (4), bitmap (2).

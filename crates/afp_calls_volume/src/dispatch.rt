@@ -1,18 +1,19 @@
 //! The requests about volumes, by their numbers and by their names.
-ghost use Rattle.afp_calls_grammar.specs.Call.{IsSpellable};
-ghost use Rattle.afp_calls_grammar.specs.Group.{Volume};
-ghost use Rattle.afp_calls_grammar.specs.Readers.{volume_readers};
-ghost use Rattle.afp_calls_fields.specs.Taking.{GivesBy};
-ghost use Rattle.afp_calls_fields.specs.Putting.{WritesCall};
+ghost use Rattle.afp_calls_grammar.specs.grammar.Call.{IsSpellable};
+ghost use Rattle.afp_calls_grammar.specs.grammar.Group.{Volume};
+ghost use Rattle.afp_calls_grammar.specs.grammar.Readers.{volume_readers};
+ghost use Rattle.afp_calls_grammar.specs.fields.Taking.{GivesBy};
+ghost use Rattle.afp_calls_grammar.specs.fields.Putting.{WritesCall};
 
 use crate::volume::{
     read_close_vol, read_flush, read_get_vol_parms, read_open_vol, read_set_vol_parms,
     write_close_vol, write_flush, write_get_vol_parms, write_open_vol, write_set_vol_parms,
 };
 use afp_base::{Bytes, OutOfMemory};
-use afp_calls_fields::Fields;
-use afp_calls_grammar::commands::{CLOSE_VOL, FLUSH, GET_VOL_PARMS, OPEN_VOL, SET_VOL_PARMS};
-use afp_calls_grammar::{Call, ReadFault};
+use afp_calls_grammar::grammar::commands::{
+    CLOSE_VOL, FLUSH, GET_VOL_PARMS, OPEN_VOL, SET_VOL_PARMS,
+};
+use afp_calls_grammar::{Call, Fields, ReadFault};
 use std::alloc::Global;
 
 /// Reads the request of that number, whose fields stand behind it; `Param` where no spelling of it

@@ -1,15 +1,18 @@
 //! The requests about volumes (AFP Reference, "Volume Commands").
 
 ghost use Rattle.std.specs.Prelude.{◌<◌, length, OnOk, OnErr};
-ghost use Rattle.afp_calls_grammar.specs.Volume.{open_vol, open_vol_reader, close_vol, close_vol_reader, get_vol_parms, get_vol_parms_reader, set_vol_parms, set_vol_parms_reader, flush, flush_reader};
-ghost use Rattle.afp_calls_fields.specs.lemma.Taking.{Gives};
+ghost use Rattle.afp_calls_grammar.specs.grammar.Volume.{open_vol, open_vol_reader, close_vol, close_vol_reader, get_vol_parms, get_vol_parms_reader, set_vol_parms, set_vol_parms_reader, flush, flush_reader};
+ghost use Rattle.afp_calls_grammar.specs.fields.lemma.Taking.{Gives};
 ghost use Rattle.afp_base.specs.Appended.{Keeps};
-ghost use Rattle.afp_calls_fields.specs.Putting.{PutsAll};
+ghost use Rattle.afp_calls_grammar.specs.fields.Putting.{PutsAll};
 
 use afp_base::{Bytes, OutOfMemory, VolumeId};
-use afp_calls_fields::{Fields, put_bytes, put_command, put_pad, put_str, put_u16};
-use afp_calls_grammar::commands::{CLOSE_VOL, FLUSH, GET_VOL_PARMS, OPEN_VOL, SET_VOL_PARMS};
-use afp_calls_grammar::{Call, ReadFault};
+use afp_calls_grammar::grammar::commands::{
+    CLOSE_VOL, FLUSH, GET_VOL_PARMS, OPEN_VOL, SET_VOL_PARMS,
+};
+use afp_calls_grammar::{
+    Call, Fields, ReadFault, put_bytes, put_command, put_pad, put_str, put_u16,
+};
 use std::alloc::Global;
 
 /// Reads 24 FPOpenVol: pad, bitmap (2), volume name (Pascal string).

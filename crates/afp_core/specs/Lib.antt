@@ -1,9 +1,2 @@
-pub mod ServerState
-pub mod Loads
-pub mod Turn
-pub mod Counted
-pub mod Sureness
-pub mod Places
-pub mod Telling
-pub mod Retiring
-pub mod lemma
+pub mod keepers
+pub mod turns

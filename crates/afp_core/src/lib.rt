@@ -1,11 +1,9 @@
+//! The keepers of a server's volumes: each volume is loaded from its keeper at the start, and settled at the end.
 //! The core: one turn of the serial file server, over a world in memory.
 #![tactic(auto)]
 
-mod counts;
-mod list_teller;
-mod turn;
+mod keepers;
+mod turns;
 
-pub use afp_core_keepers::{CoreFault, Retired};
-pub use counts::Counts;
-pub use list_teller::ListTeller;
-pub use turn::Core;
+pub use keepers::{CoreFault, Retired, load_all, settle_all};
+pub use turns::{Core, Counts, ListTeller};

@@ -8,8 +8,8 @@ use Rattle.afp_base.specs.declared.bytes.OutOfMemory.{OutOfMemory}
 use Rattle.afp_base.specs.Limits.{payload_limit}
 use Rattle.afp_base.specs.declared.code.Code.{Code}
 use Rattle.afp_base.specs.declared.code.Code.TheVariants.{CallNotSupported, UserNotAuth}
-use Rattle.afp_calls_grammar.specs.Spelt.{is_command, spelt_call}
-use Rattle.afp_calls_grammar.specs.declared.call.Call.{Call}
+use Rattle.afp_calls_grammar.specs.grammar.Spelt.{is_command, spelt_call}
+use Rattle.afp_calls_grammar.specs.declared.grammar.call.Call.{Call}
 use Rattle.afp_serial.proofs.KeptAnswers.{has_none}
 use Rattle.afp_serial.proofs.OtherPlaces.{only-number}
 use Rattle.afp_serial.proofs.RowsSound.{row-sound}

@@ -6,8 +6,8 @@ use Rattle.afp_base.specs.declared.code.Code.TheVariants.{Ok, ParamErr, BadVersN
 use Rattle.std.proofs.lemmas.Slice.Eq.{bytes_eq-Decides}
 use Rattle.afp_base.specs.Choice.{first_holding}
 use Rattle.afp_replies.specs.Replies.{canonical_reply}
-use Rattle.afp_calls_grammar.specs.declared.call.Call.{Call}
-use Rattle.afp_calls_grammar.specs.declared.call.Call.TheVariants.{Login, LoginExt, Logout}
+use Rattle.afp_calls_grammar.specs.declared.grammar.call.Call.{Call}
+use Rattle.afp_calls_grammar.specs.declared.grammar.call.Call.TheVariants.{Login, LoginExt, Logout}
 use Rattle.afp_serial.specs.declared.ask.Told.{Told}
 use Rattle.afp_serial.specs.declared.ask.Told.TheVariants.{Reply}
 use Rattle.afp_serial.specs.Login.{Credentials, credentials_at, logs_in_row, named, tail_place, user_given, who_logs_in}
@@ -15,7 +15,7 @@ use Rattle.afp_serial.specs.Users.{guest_id}
 use Rattle.afp_serial.specs.declared.user.User.{User}
 use Rattle.afp_serial.specs.World.{CallRow, Effect, plain, with_session, without_session, World, Session}
 use Rattle.afp_serial.specs.Rows.{effect, ends_session, row, refusal}
-use Rattle.afp_calls_grammar.specs.LoginNames.{cleartext, no_user}
+use Rattle.afp_calls_grammar.specs.grammar.LoginNames.{cleartext, no_user}
 use Rattle.afp_serial.specs.StatusWords.{versions}
 use Rattle.session_table.specs.Sessions.{session_of}
 use Rattle.session_table.specs.Sessions.{Becomes, Table}

@@ -1,7 +1,7 @@
 -- What a request spells, by its block and enclosed bytes.
 use Rattle.std.proofs.Common.{◌≡◌, ap, sym, refl, subst, ℕ, Bool, true, false, List, take, drop, Some, None}
 use Rattle.std.specs.Prelude.{Result}
-use Rattle.afp_calls_grammar.specs.declared.call.Call.{Call}
+use Rattle.afp_calls_grammar.specs.declared.grammar.call.Call.{Call}
 use Rattle.afp_serial.specs.Answer.{request}
 use Rattle.afp_core_dispatch.specs.lemma.Spelling.{ComesToRow, IsJudged, IsSpelled}
 use Rattle.afp_core_dispatch.specs.declared.spelling.Stop.{Stop}

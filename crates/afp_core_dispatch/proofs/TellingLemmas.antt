@@ -10,7 +10,7 @@ use Rattle.afp_bitmap.specs.Bits.{is_asked, is_outside}
 use Rattle.afp_replies.specs.Numbers.{message_bit, message_mask, user_info_mask}
 use Rattle.afp_replies.specs.Replies.{canonical_reply, volume_bytes}
 use Rattle.afp_replies.specs.declared.reply.Reply.TheVariants.{MappedId, MappedName, Message, ServerParams, Status}
-use Rattle.afp_calls_grammar.specs.declared.call.Call.TheVariants.{GetSrvrInfo, GetSrvrMsg, GetSrvrParms, GetUserInfo, MapID, MapName}
+use Rattle.afp_calls_grammar.specs.declared.grammar.call.Call.TheVariants.{GetSrvrInfo, GetSrvrMsg, GetSrvrParms, GetUserInfo, MapID, MapName}
 use Rattle.afp_serial.specs.GetSrvrMsg.{get_srvr_msg_row, login_message, message_of, message_since, server_message}
 use Rattle.afp_serial.specs.GetSrvrParms.{volume_entry}
 use Rattle.afp_serial.specs.GetUserInfo.{asks_own, get_user_info_row, id_of, user_info}

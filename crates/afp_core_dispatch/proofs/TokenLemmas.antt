@@ -6,7 +6,7 @@ use Rattle.afp_base.specs.Choice.{first_holding}
 use Rattle.afp_base.specs.declared.code.Code.{Code}
 use Rattle.afp_base.specs.declared.code.Code.TheVariants.{Ok}
 use Rattle.afp_base.specs.declared.ids.SessionNumber.{SessionNumber}
-use Rattle.afp_calls_grammar.specs.declared.call.Call.TheVariants.{DisconnectOldSession, GetSessionToken}
+use Rattle.afp_calls_grammar.specs.declared.grammar.call.Call.TheVariants.{DisconnectOldSession, GetSessionToken}
 use Rattle.afp_serial.specs.Answer.{effect_reply, refusal_reply}
 use Rattle.afp_serial.specs.Rows.{row}
 use Rattle.afp_serial.specs.SessionToken.{old_session_refusals, rejoins}

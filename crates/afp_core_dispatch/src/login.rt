@@ -1,22 +1,21 @@
 //! FPLogin and FPLoginExt (AFP Reference, under these names).
 ghost use Rattle.std.specs.Prelude.{◌≡◌, ◌%◌, ◌<◌, ℕ, List, None, Ok, Some, bytes_eq, drop, false, length, option_map, position, IfSome};
 ghost use Rattle.std.specs.List.{list_any};
-ghost use Rattle.afp_calls_grammar.specs.declared.call.Call.{Call};
+ghost use Rattle.afp_calls_grammar.specs.declared.grammar.call.Call.{Call};
 ghost use Rattle.afp_serial.specs.Login.{credentials_at, is_user, logs_in_row, named, tail_place, user_given};
 ghost use Rattle.afp_serial.specs.Rows.{ends_session, row};
 ghost use Rattle.afp_serial.specs.StatusWords.{versions};
 ghost use Rattle.afp_core_state.specs.Running.{done as with_done, RunsRow};
 
 use crate::users::GUEST_ID;
-use afp_base::{Bytes, Code, SessionNumber};
-use afp_calls_grammar::login_names::{CLEARTEXT, NO_USER, VERSION_3_1, VERSION_3_2, VERSION_3_3};
+use afp_base::{Bytes, Code, PASSWORD_SIZE, SessionNumber};
+use afp_calls_grammar::grammar::login_names::{
+    CLEARTEXT, NO_USER, VERSION_3_1, VERSION_3_2, VERSION_3_3,
+};
 use afp_core_state::{State, done, refused};
 use afp_serial::{Told, User};
 use record_keeper::Keeper;
 use std::marker::Model;
-
-/// The bytes of a password.
-const PASSWORD_SIZE: usize = 8;
 
 /// A user's name and password, as a login gives them.
 #[derive(Drop)]

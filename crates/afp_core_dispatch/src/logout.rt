@@ -1,6 +1,6 @@
 //! FPLogout (AFP Reference, "FPLogout").
 ghost use Rattle.std.specs.Prelude.{Ok};
-ghost use Rattle.afp_calls_grammar.specs.declared.call.Call.{Call};
+ghost use Rattle.afp_calls_grammar.specs.declared.grammar.call.Call.{Call};
 ghost use Rattle.afp_core_state.specs.Running.{IsReady, done as with_done, RunsRow};
 
 use afp_base::{Bytes, Code, SessionNumber};

@@ -4,7 +4,7 @@ ghost use Rattle.afp_bitmap.specs.Bits.{is_asked};
 ghost use Rattle.afp_replies.specs.Numbers.{message_bit};
 ghost use Rattle.afp_replies.specs.Replies.{canonical_reply, volume_bytes};
 ghost use Rattle.afp_replies.specs.declared.reply.Reply.{Reply};
-ghost use Rattle.afp_calls_grammar.specs.declared.call.Call.{Call};
+ghost use Rattle.afp_calls_grammar.specs.declared.grammar.call.Call.{Call};
 ghost use Rattle.afp_serial.specs.GetSrvrMsg.{message_since};
 ghost use Rattle.afp_serial.specs.GetSrvrParms.{volume_entry};
 ghost use Rattle.afp_core_state.specs.Running.{RunsRow};

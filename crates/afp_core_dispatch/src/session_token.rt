@@ -1,6 +1,6 @@
 //! FPGetSessionToken and FPDisconnectOldSession (AFP Reference, under these names).
 ghost use Rattle.std.specs.Prelude.{◌≡◌, ℕ, List, Ok, Option};
-ghost use Rattle.afp_calls_grammar.specs.declared.call.Call.{Call};
+ghost use Rattle.afp_calls_grammar.specs.declared.grammar.call.Call.{Call};
 ghost use Rattle.afp_core_state.specs.Running.{done as with_done, IsReady, RunsRow};
 ghost use Rattle.afp_core_state.specs.lemma.KeptWorld.{table_in};
 ghost use Rattle.session_table.specs.Sessions.{AreBelow};

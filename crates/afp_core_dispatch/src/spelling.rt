@@ -2,7 +2,7 @@
 ghost use Rattle.std.specs.Prelude.{◌≡◌, if◌then◌else◌};
 ghost use Rattle.std.specs.Option.{option_copied};
 ghost use Rattle.afp_base.specs.declared.code.Code.TheVariants.{CallNotSupported, UserNotAuth};
-ghost use Rattle.afp_calls_grammar.specs.Spelt.{is_command};
+ghost use Rattle.afp_calls_grammar.specs.grammar.Spelt.{is_command};
 ghost use Rattle.afp_serial.specs.Answer.{needs_user};
 ghost use Rattle.afp_core_dispatch.specs.lemma.Requests.{as_request};
 ghost use Rattle.afp_core_dispatch.specs.lemma.Spelling.{IsJudged, IsSpelled};

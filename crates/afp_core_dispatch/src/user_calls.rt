@@ -4,7 +4,7 @@ ghost use Rattle.afp_bitmap.specs.Bits.{is_outside};
 ghost use Rattle.afp_replies.specs.Numbers.{user_info_mask};
 ghost use Rattle.afp_replies.specs.Replies.{canonical_reply};
 ghost use Rattle.afp_replies.specs.declared.reply.Reply.{Reply};
-ghost use Rattle.afp_calls_grammar.specs.declared.call.Call.{Call};
+ghost use Rattle.afp_calls_grammar.specs.declared.grammar.call.Call.{Call};
 ghost use Rattle.afp_serial.specs.GetUserInfo.{asks_own, id_of, user_info};
 ghost use Rattle.afp_serial.specs.MapID.{is_utf8_function, name_of_id};
 ghost use Rattle.afp_serial.specs.MapName.{id_of_name};

@@ -24,7 +24,7 @@ use Rattle.range_locks.specs.Locks as held
 use Rattle.range_locks.specs.declared.fault.LockFault.{LockFault}
 use Rattle.range_locks.specs.declared.fault.LockFault.TheVariants.{Locked, Overlap, Full, Memory}
 use Rattle.range_locks.specs.declared.fault.NotLocked.{NotLocked}
-use Rattle.sorted_map.specs.Entries.{at}
+use Rattle.sorted_map.specs.map.Entries.{at}
 use Rattle.afp_core_state.specs.Forks.{AllHeld, ClosingUndoes, Forks, HasForks, LocksRange, UnlocksRange, forks_of, left_of, lock_of, with_locks}
 use Rattle.afp_core_state.specs.lemma.LockRanges.{AreInRange}
 use Rattle.afp_core_state.proofs.OpenRows.{Rise, count-map, open-at, open-rows, row_of, told, told-at}

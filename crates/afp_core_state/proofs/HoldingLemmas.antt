@@ -4,7 +4,7 @@ use Rattle.std.specs.Prelude.{IfSome, option_map, slice_get}
 use Rattle.std.proofs.lemmas.List.{drop_all, drop_more}
 use Rattle.afp_serial.specs.World.{volume_at, World}
 use Rattle.record_keeper.specs.Records.{Records}
-use Rattle.volume_keeper_commit.specs.Kept.{KeptState}
+use Rattle.volume_keeper.specs.kept.Kept.{KeptState}
 use Rattle.volume_keeper_records.specs.Image.{kept_image}
 use Rattle.afp_core_state.proofs.KeeperLemmas.{list-get, volume_at-index}
 use Rattle.afp_core_state.specs.Holding.{AreHeld, HoldEach}

@@ -4,7 +4,7 @@ use Rattle.std.specs.Prelude.{option_map, slice_get, slice_set}
 use Rattle.afp_serial.specs.World.{volume_at, World}
 use Rattle.volume_spec.specs.VolumeState.{VolumeState}
 use Rattle.record_keeper.specs.Settling.{settled_in}
-use Rattle.volume_keeper_commit.specs.Kept.{KeptState}
+use Rattle.volume_keeper.specs.kept.Kept.{KeptState}
 use Rattle.afp_serial.specs.declared.ask.Outcome.TheVariants as outcome
 use Rattle.afp_serial.specs.declared.ask.Told.{Told}
 use Rattle.afp_core_state.specs.KeeperFaults.{SureStand}

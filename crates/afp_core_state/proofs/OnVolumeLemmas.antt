@@ -7,7 +7,7 @@ use Rattle.afp_base.specs.Choice.{first_holding}
 use Rattle.afp_base.specs.declared.code.Code.{Code}
 use Rattle.afp_base.specs.declared.code.Code.TheVariants.{Ok, ParamErr}
 use Rattle.afp_replies.specs.Replies.{canonical_reply}
-use Rattle.afp_calls_grammar.specs.declared.call.Call.{Call}
+use Rattle.afp_calls_grammar.specs.declared.grammar.call.Call.{Call}
 use Rattle.afp_serial.specs.Answer.{effect_reply}
 use Rattle.afp_serial.specs.World.{Effect, plain, refused_before, has_opened, user_of, volume_at, World, Session}
 use Rattle.afp_serial.specs.OnVolume.{keeper_of, on_volume, with_state}
@@ -23,8 +23,8 @@ use Rattle.session_table.specs.Sessions.{session_of}
 use Rattle.afp_core_state.specs.Running.{IsOutcomeOf}
 use Rattle.afp_core_state.proofs.KeeperLemmas.{volume_at-index, stand-same}
 use Rattle.record_keeper.specs.Settling.{settled_in}
-use Rattle.volume_keeper_commit.specs.Changing.{FailsIn}
-use Rattle.volume_keeper_commit.specs.Kept.{KeptState}
+use Rattle.volume_keeper.specs.kept.Changing.{FailsIn}
+use Rattle.volume_keeper.specs.kept.Kept.{KeptState}
 
 -- what holds of an optional value
 pub if-some : {A : Type 0} → (P Q : A → Type 0) → (o : Option A) → IfSome o P → ((a : A) → P a → Q a) → IfSome o Q

@@ -27,7 +27,7 @@ use Rattle.fork_table.specs.ForkTable as table
 use Rattle.fork_table.specs.declared.open_fork.OpenFork.{OpenFork as Row}
 use Rattle.fork_table.specs.declared.open_fork.OpenFault.{OpenFault}
 use Rattle.fork_table.specs.declared.open_fork.OpenFault.TheVariants.{Deny, TooMany, Memory}
-use Rattle.sorted_map.specs.Entries.{at}
+use Rattle.sorted_map.specs.map.Entries.{at}
 use Rattle.afp_core_state.specs.Forks.{HasForks, OpensFork, forks_of, new_open, open_of, shown_opens, with_opens}
 use Rattle.afp_base.proofs.Facts.{or-false}
 use Rattle.afp_base.proofs.ListFacts.{any-map, filter-map, length-mapped}

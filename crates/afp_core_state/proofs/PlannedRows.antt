@@ -7,26 +7,26 @@ use Rattle.afp_base.specs.declared.code.Code.{Code}
 use Rattle.afp_base.specs.declared.code.Code.TheVariants.{Ok, MiscErr, ParamErr}
 use Rattle.afp_replies.specs.Replies.{canonical_reply}
 use Rattle.afp_replies.specs.declared.reply.Reply.{Reply as AfpReply}
-use Rattle.afp_calls_grammar.specs.declared.call.Call.{Call}
+use Rattle.afp_calls_grammar.specs.declared.grammar.call.Call.{Call}
 use Rattle.afp_serial.specs.Answer.{refusal_reply}
 use Rattle.afp_serial.specs.World.{Effect, CallRow, plain, user_of, World, Session}
 use Rattle.afp_serial.specs.OnVolume.{done_on, opened_on}
-use Rattle.volume_keeper_commit.specs.Commits.{Commits}
+use Rattle.volume_keeper.specs.kept.Commits.{Commits}
 use Rattle.afp_serial.specs.VolumeRows.{edits_on, keeper_of_edits, with_edits}
 use Rattle.afp_serial.specs.Rows.{effect, refusal}
 use Rattle.afp_serial.specs.declared.ask.Outcome.{Outcome}
 use Rattle.afp_serial.specs.declared.ask.Outcome.TheVariants as outcome
 use Rattle.afp_serial.specs.declared.ask.Told.{Told}
 use Rattle.afp_serial.specs.declared.ask.Told.TheVariants.{Reply}
-use Rattle.volume_edits.specs.Planned.{EditValue, PlanValue, edits_of}
-use Rattle.volume_plans.specs.Plans.{Plans}
+use Rattle.volume_edits.specs.edits.Planned.{EditValue, PlanValue, edits_of}
+use Rattle.volume_edits.specs.plans.Plans.{Plans}
 use Rattle.volume_spec.specs.Edit.{Edit, after_call}
 use Rattle.volume_spec.specs.VolumeCalls.{VolumeCall, call_edits, volume_refusal}
 use Rattle.volume_spec.specs.VolumeState.{VolumeState}
 use Rattle.volume_tree.specs.Answered.{Refuses}
 use Rattle.volume_tree.specs.declared.resolve.PlanFault.{PlanFault}
 use Rattle.volume_tree.specs.declared.resolve.PlanFault.TheVariants as fault
-use Rattle.volume_keeper_commit.specs.Kept.{KeptState}
+use Rattle.volume_keeper.specs.kept.Kept.{KeptState}
 use Rattle.record_keeper.specs.declared.keeper.KeeperFault.{KeeperFault}
 use Rattle.record_keeper.specs.declared.keeper.KeeperFault.TheVariants as keeper
 use Rattle.session_table.specs.Sessions.{session_of}

@@ -3,7 +3,7 @@ use Rattle.std.proofs.Common.{◌≡◌, ◌∙◌, ap, sym, refl, subst, ℕ, z
 use Rattle.std.specs.Prelude.{Result, Ok as with_ok, Err, slice_get, slice_set}
 use Rattle.afp_base.specs.declared.bytes.OutOfMemory.{OutOfMemory}
 use Rattle.afp_base.specs.declared.code.Code.TheVariants as code
-use Rattle.afp_calls_grammar.specs.declared.call.Call.{Call}
+use Rattle.afp_calls_grammar.specs.declared.grammar.call.Call.{Call}
 use Rattle.afp_base.proofs.Facts.{some-none}
 use Rattle.afp_serial.specs.Answer.{committed_by, verdict_of_row}
 use Rattle.afp_serial.specs.Rows.{committed, refusal}
@@ -23,8 +23,8 @@ use Rattle.afp_core_state.proofs.OnVolumeLemmas.{set-same}
 use Rattle.record_keeper.specs.Settling.{Answers, settled_in}
 use Rattle.record_keeper.specs.declared.keeper.KeeperFault.{KeeperFault}
 use Rattle.record_keeper.specs.declared.keeper.KeeperFault.TheVariants as keeper
-use Rattle.volume_keeper_commit.specs.Changing.{FailsIn, Settles}
-use Rattle.volume_keeper_commit.specs.Kept.{KeptState}
+use Rattle.volume_keeper.specs.kept.Changing.{FailsIn, Settles}
+use Rattle.volume_keeper.specs.kept.Kept.{KeptState}
 
 -- one answer more
 one_more : (n : ℕ) → suc (n + 1) ≡ suc n + 1

@@ -7,7 +7,7 @@ use Rattle.afp_base.specs.declared.code.Code.{Code}
 use Rattle.afp_base.specs.declared.code.Code.TheVariants.{Ok, ParamErr}
 use Rattle.afp_replies.specs.Replies.{canonical_reply}
 use Rattle.afp_replies.specs.declared.reply.Reply.{Reply as AfpReply}
-use Rattle.afp_calls_grammar.specs.declared.call.Call.{Call}
+use Rattle.afp_calls_grammar.specs.declared.grammar.call.Call.{Call}
 use Rattle.afp_serial.specs.Answer.{refusal_reply}
 use Rattle.afp_serial.specs.World.{Effect, CallRow, plain, user_of, World, Session}
 use Rattle.afp_serial.specs.OnVolume.{done_on}

@@ -2,7 +2,7 @@
 use Rattle.afp_serial.specs.Household.{Household}
 use Rattle.afp_serial.specs.World.{World, Session}
 use Rattle.volume_spec.specs.VolumeState.{VolumeState}
-use Rattle.volume_keeper_commit.specs.Kept.{KeptState}
+use Rattle.volume_keeper.specs.kept.Kept.{KeptState}
 use Rattle.afp_core_state.specs.Forks.{Forks}
 use Rattle.record_keeper.specs.Settling.{settled_in}
 use Rattle.std.specs.Prelude.{ℕ, Bool, List, map, Option}

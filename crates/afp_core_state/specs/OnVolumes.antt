@@ -8,7 +8,7 @@ use Rattle.session_table.specs.Sessions.{session_of}
 use Rattle.afp_serial.specs.World.{plain, has_opened, user_of, Session}
 use Rattle.afp_serial.specs.OnVolume.{on_volume}
 use Rattle.volume_spec.specs.VolumeState.{VolumeState}
-use Rattle.volume_keeper_commit.specs.Kept.{KeptState}
+use Rattle.volume_keeper.specs.kept.Kept.{KeptState}
 use Rattle.record_keeper.specs.Settling.{settled_in}
 
 -- the session has opened the volume, which is at this index: ids count from 1

@@ -13,8 +13,8 @@ use Rattle.afp_serial.specs.declared.ask.Told.{Told}
 use Rattle.afp_serial.specs.declared.ask.Told.TheVariants.{Reply}
 use Rattle.record_keeper.specs.declared.keeper.KeeperFault.{KeeperFault}
 use Rattle.record_keeper.specs.declared.keeper.KeeperFault.TheVariants as keeper
-use Rattle.volume_edits.specs.Planned.{PlanValue, StandOn, edits_of}
-use Rattle.volume_keeper_commit.specs.Commits.{Commits}
+use Rattle.volume_edits.specs.edits.Planned.{PlanValue, StandOn, edits_of}
+use Rattle.volume_keeper.specs.kept.Commits.{Commits}
 use Rattle.volume_spec.specs.EditLaws.{MayEditAll}
 use Rattle.volume_spec.specs.EditRanges.{is_typed_edit}
 use Rattle.volume_spec.specs.VolumeState.{VolumeState}

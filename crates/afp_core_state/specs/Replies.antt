@@ -8,8 +8,8 @@ use Rattle.afp_serial.specs.declared.ask.Outcome.{Outcome}
 use Rattle.afp_serial.specs.declared.ask.Outcome.TheVariants as outcome
 use Rattle.afp_serial.specs.declared.ask.Told.{Told}
 use Rattle.afp_serial.specs.declared.ask.Told.TheVariants.{Reply}
-use Rattle.volume_keeper_commit.specs.declared.change.ChangeFault.{ChangeFault}
-use Rattle.volume_keeper_commit.specs.declared.change.ChangeFault.TheVariants as change
+use Rattle.volume_keeper.specs.declared.kept.change.ChangeFault.{ChangeFault}
+use Rattle.volume_keeper.specs.declared.kept.change.ChangeFault.TheVariants as change
 use Rattle.record_keeper.specs.declared.keeper.KeeperFault.{KeeperFault}
 use Rattle.record_keeper.specs.declared.keeper.KeeperFault.TheVariants as keeper
 use Rattle.volume_tree.specs.declared.resolve.PlanFault.{PlanFault}

@@ -1,7 +1,7 @@
 -- Kinds of rows of calls on a volume that the session has open (this profile).
 use Rattle.std.specs.Prelude.{◌≡◌, ℕ, false, List, Option, None}
 use Rattle.afp_base.specs.declared.code.Code.{Code}
-use Rattle.afp_calls_grammar.specs.declared.call.Call.{Call}
+use Rattle.afp_calls_grammar.specs.declared.grammar.call.Call.{Call}
 use Rattle.afp_replies.specs.Replies.{canonical_reply}
 use Rattle.afp_replies.specs.declared.reply.Reply.{Reply}
 use Rattle.afp_serial.specs.Rows.{ends_session, row}

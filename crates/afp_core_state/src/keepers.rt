@@ -9,7 +9,7 @@ ghost use Rattle.volume_keeper_records.specs.Image.{kept_image};
 use crate::state::State;
 use afp_base::VolumeId;
 use record_keeper::Keeper;
-use volume_keeper_commit::KeptVolume;
+use volume_keeper::KeptVolume;
 
 impl<K: Keeper> State<K> {
     /// The keeper of the volume of an id, which holds that volume's records, and no others. `None`: there is no such volume.

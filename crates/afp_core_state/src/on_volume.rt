@@ -2,12 +2,12 @@
 ghost use Rattle.std.specs.Prelude.{◌≡◌, ◌+◌, ◌<◌, None, Some, MatchOption, length, option_map, slice_get};
 ghost use Rattle.afp_serial.specs.World.{volume_at};
 ghost use Rattle.afp_core_state.specs.OnVolumes.{BecomesKept, IsOpen, IsUser};
-ghost use Rattle.volume_keeper_commit.specs.Changing.{Settles};
+ghost use Rattle.volume_keeper.specs.kept.Changing.{Settles};
 
 use crate::state::State;
 use afp_base::{SessionNumber, VolumeId};
 use record_keeper::{Keeper, KeeperFault};
-use volume_keeper_commit::KeptVolume;
+use volume_keeper::KeptVolume;
 use volume_spec::limits::GUEST;
 
 impl<K: Keeper> State<K> {

@@ -2,7 +2,7 @@
 ghost use Rattle.std.specs.Prelude.{◌≡◌, ◌<◌, Some, length, slice_get, IfOk};
 ghost use Rattle.afp_core_state.specs.Planned.{MayCommitAt, RunsPlan, TellsCommitted};
 ghost use Rattle.afp_core_state.specs.OnVolumes.{BecomesKept};
-ghost use Rattle.volume_keeper_commit.specs.Commits.{Commits};
+ghost use Rattle.volume_keeper.specs.kept.Commits.{Commits};
 
 use crate::replies::{done, refused};
 use crate::state::State;

@@ -9,7 +9,7 @@ use afp_base::{Bytes, Code, OutOfMemory};
 use afp_serial::{Outcome, Told};
 use record_keeper::KeeperFault;
 use std::alloc::Global;
-use volume_keeper_commit::ChangeFault;
+use volume_keeper::ChangeFault;
 use volume_tree::PlanFault;
 
 /// Bytes that most replies with parameters do not pass: their memory is taken once.

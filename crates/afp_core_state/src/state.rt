@@ -11,7 +11,7 @@ use record_keeper::Keeper;
 use session_table::Sessions;
 use std::alloc::Global;
 use std::marker::Model;
-use volume_keeper_commit::KeptVolume;
+use volume_keeper::KeptVolume;
 
 /// The state of the server: its volumes stand beside their keepers.
 ///

@@ -1,3 +1,2 @@
-pub mod Events
-pub mod Given
-pub mod Links
+pub mod OfEnds
+pub mod OfLines

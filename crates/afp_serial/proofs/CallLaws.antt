@@ -5,7 +5,7 @@ use Rattle.afp_serial.proofs.StaysSound.{answer-fits}
 use Rattle.afp_serial.proofs.Verdicts.{comes-to, kept-verdict, runs-of}
 use Rattle.std.specs.Prelude.{is_some}
 use Rattle.afp_base.specs.Limits.{payload_limit}
-use Rattle.afp_calls_grammar.specs.declared.call.Call.{Call}
+use Rattle.afp_calls_grammar.specs.declared.grammar.call.Call.{Call}
 use Rattle.afp_serial.specs.declared.ask.Ask.{Ask}
 use Rattle.afp_serial.specs.declared.ask.Ask.TheVariants as ask
 use Rattle.afp_serial.specs.declared.ask.Entry.{Entry}

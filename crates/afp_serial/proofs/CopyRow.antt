@@ -14,9 +14,9 @@ use Rattle.afp_replies.proofs.Asking.{nothing_fits}
 use Rattle.afp_replies.specs.Commands.{rows, shape_in, shape_of}
 use Rattle.afp_replies.specs.Requested.{tells_nothing}
 use Rattle.afp_replies.specs.declared.reply.Reply.TheVariants.{Empty}
-use Rattle.afp_calls_grammar.specs.Words.{pathname}
-use Rattle.afp_calls_grammar.specs.declared.call.Call.{Call}
-use Rattle.afp_calls_grammar.specs.declared.call.Call.TheVariants as calls
+use Rattle.afp_calls_grammar.specs.grammar.Words.{pathname}
+use Rattle.afp_calls_grammar.specs.declared.grammar.call.Call.{Call}
+use Rattle.afp_calls_grammar.specs.declared.grammar.call.Call.TheVariants as calls
 use Rattle.afp_serial.proofs.LawfulCalls.{field-lawful}
 use Rattle.afp_serial.proofs.OnVolumeRows.{Asks, IsToldTo, done-keeps, refused_before-none, told-shown}
 use Rattle.afp_serial.proofs.OpenForkRow.{IsFileFound, found-file}

@@ -4,8 +4,8 @@ use Rattle.std.proofs.lemmas.Bool.{both_ways, eqb-false, eqb-true}
 use Rattle.afp_base.specs.ForkBytes.{resized}
 use Rattle.afp_replies.specs.declared.reply.Reply.{Reply}
 use Rattle.afp_replies.specs.declared.reply.Reply.TheVariants.{Empty, End, EndExt, Node, Start, StartExt}
-use Rattle.afp_calls_grammar.specs.declared.call.Call.{Call}
-use Rattle.afp_calls_grammar.specs.declared.call.Call.TheVariants as calls
+use Rattle.afp_calls_grammar.specs.declared.grammar.call.Call.{Call}
+use Rattle.afp_calls_grammar.specs.declared.grammar.call.Call.TheVariants as calls
 use Rattle.afp_serial.proofs.ForkCommits.{all-locks, all-reads, done-volumes, opened-volumes}
 use Rattle.afp_serial.proofs.Keeps.{AnyCall, Keeps, after-keeps, nothing-known}
 use Rattle.afp_serial.proofs.OnForkRows.{held-file}

@@ -11,9 +11,9 @@ use Rattle.afp_base.specs.declared.ids.VolumeId.{VolumeId}
 use Rattle.afp_names.specs.Path.{PathValue}
 use Rattle.afp_replies.specs.declared.reply.Reply.TheVariants.{Empty, Node}
 use Rattle.afp_replies.specs.Commands.{rows, shape_in, shape_of}
-use Rattle.afp_calls_grammar.specs.Words.{plain_bytes, str, u32, u8}
-use Rattle.afp_calls_grammar.specs.declared.call.Call.{Call}
-use Rattle.afp_calls_grammar.specs.declared.call.Call.TheVariants as calls
+use Rattle.afp_calls_grammar.specs.grammar.Words.{plain_bytes, str, u32, u8}
+use Rattle.afp_calls_grammar.specs.declared.grammar.call.Call.{Call}
+use Rattle.afp_calls_grammar.specs.declared.grammar.call.Call.TheVariants as calls
 use Rattle.afp_serial.proofs.LawfulCalls.{enclosed-lawful, field-lawful}
 use Rattle.afp_serial.proofs.OnVolumeRows.{Asks, IsToldTo}
 use Rattle.afp_serial.proofs.SoundRow.{IsSoundRow}

@@ -11,8 +11,8 @@ use Rattle.afp_base.specs.ForkBytes.{resized, splice}
 use Rattle.afp_names.specs.Path.{PathValue}
 use Rattle.afp_replies.specs.declared.reply.Reply.{Reply}
 use Rattle.afp_replies.specs.declared.reply.Reply.TheVariants.{Empty, End, EndExt, Node, Start, StartExt}
-use Rattle.afp_calls_grammar.specs.declared.call.Call.{Call}
-use Rattle.afp_calls_grammar.specs.declared.call.Call.TheVariants as calls
+use Rattle.afp_calls_grammar.specs.declared.grammar.call.Call.{Call}
+use Rattle.afp_calls_grammar.specs.declared.grammar.call.Call.TheVariants as calls
 use Rattle.afp_serial.proofs.EditedForks.{IsExchanged, IsGentle, add-appl-gentle, add-comment-gentle, add-icon-gentle, copy-gentle, create-id-gentle, delete-id-gentle, gentle-be, is_gentle, pair-exchanged, remove-appl-gentle, remove-comment-gentle}
 use Rattle.afp_serial.proofs.ExchangeRow.{Exchanged, exchanged-left}
 use Rattle.afp_serial.proofs.ExchangedForks.{exchanged-elsewhere, exchanged-first, exchanged-neither, exchanged-second}

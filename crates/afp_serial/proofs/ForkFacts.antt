@@ -16,8 +16,8 @@ use Rattle.afp_replies.specs.Commands.{rows, shape_in, shape_of}
 use Rattle.afp_replies.specs.Replies.{Shows, canonical_reply}
 use Rattle.afp_replies.specs.Requested.{FitsRequest}
 use Rattle.afp_replies.specs.declared.reply.Reply.TheVariants.{Opened}
-use Rattle.afp_calls_grammar.specs.declared.call.Call.TheVariants as calls
-use Rattle.afp_calls_grammar.specs.declared.call.Call.TheVariants.{Read, ReadExt}
+use Rattle.afp_calls_grammar.specs.declared.grammar.call.Call.TheVariants as calls
+use Rattle.afp_calls_grammar.specs.declared.grammar.call.Call.TheVariants.{Read, ReadExt}
 use Rattle.afp_serial.proofs.ForkRows.{file-answer}
 use Rattle.afp_serial.proofs.ListShown.{within}
 use Rattle.afp_serial.proofs.OpenForkRow.{IsFileFound, found-file}

@@ -17,8 +17,8 @@ use Rattle.afp_replies.specs.Commands.{rows, shape_in, shape_of}
 use Rattle.afp_replies.specs.Replies.{canonical_reply}
 use Rattle.afp_replies.specs.Requested.{IsTold}
 use Rattle.afp_replies.specs.declared.reply.Reply.TheVariants.{Empty, Params, Piece}
-use Rattle.afp_calls_grammar.specs.declared.call.Call.{Call}
-use Rattle.afp_calls_grammar.specs.declared.call.Call.TheVariants.{CloseFork, FlushFork, GetForkParms, Read, ReadExt}
+use Rattle.afp_calls_grammar.specs.declared.grammar.call.Call.{Call}
+use Rattle.afp_calls_grammar.specs.declared.grammar.call.Call.TheVariants.{CloseFork, FlushFork, GetForkParms, Read, ReadExt}
 use Rattle.afp_serial.proofs.Closed.{closing-sound}
 use Rattle.afp_serial.proofs.ListShown.{within}
 use Rattle.afp_serial.proofs.OnForkRows.{fork-row-sound, sound-file}

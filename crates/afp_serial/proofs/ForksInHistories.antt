@@ -15,7 +15,7 @@ use Rattle.afp_base.specs.declared.code.Code.TheVariants.{AccessDenied, EOFErr, 
 use Rattle.afp_base.specs.declared.ids.ForkRef.{ForkRef}
 use Rattle.afp_replies.specs.Replies.{canonical_reply}
 use Rattle.afp_replies.specs.declared.reply.Reply.TheVariants.{Piece}
-use Rattle.afp_calls_grammar.specs.declared.call.Call.{Call}
+use Rattle.afp_calls_grammar.specs.declared.grammar.call.Call.{Call}
 use Rattle.afp_serial.proofs.CallLaws.{told-by}
 use Rattle.afp_serial.proofs.ForkChanges.{call-changes, fork-bytes}
 use Rattle.afp_serial.proofs.ForkFacts.{no-byte-twice, no-two-conflict, some-any}

@@ -3,8 +3,8 @@ use Rattle.std.proofs.Common.{◌≡◌, refl, ℕ, Bool, false, Option, Some, N
 use Rattle.std.specs.Prelude.{find, ◌==◌, not}
 use Rattle.std.proofs.lemmas.Bool.{cond_both}
 use Rattle.afp_base.specs.Cached.{Request, Answer}
-use Rattle.afp_calls_grammar.specs.Spelt.{spelt_call}
-use Rattle.afp_calls_grammar.specs.declared.call.Call.{Call}
+use Rattle.afp_calls_grammar.specs.grammar.Spelt.{spelt_call}
+use Rattle.afp_calls_grammar.specs.declared.grammar.call.Call.{Call}
 use Rattle.afp_serial.proofs.Verdicts.{comes-to}
 use Rattle.afp_serial.specs.declared.ask.Ask.{Ask}
 use Rattle.afp_serial.specs.declared.ask.Ask.TheVariants as ask

@@ -5,12 +5,12 @@ use Rattle.std.proofs.lemmas.Bool.{and_parts, cond_both}
 use Rattle.afp_base.proofs.DefinitionLaws.{repeats}
 use Rattle.afp_base.specs.Cached.{Request, Answer, Kept, cached_answer, either, is_repeat}
 use Rattle.afp_base.specs.declared.code.Code.{Code}
-use Rattle.afp_calls_grammar.proofs.CallLemmas.{readers_sound}
-use Rattle.afp_calls_grammar.proofs.ReaderLemmas.{spelt_spells}
-use Rattle.afp_calls_grammar.specs.Call.{Spells}
-use Rattle.afp_calls_grammar.specs.Commands.{disconnect_old_session_command, get_session_token_command, logout_command}
-use Rattle.afp_calls_grammar.specs.Spelt.{spelt_call}
-use Rattle.afp_calls_grammar.specs.declared.call.Call.TheVariants.{DisconnectOldSession, GetSessionToken, Logout}
+use Rattle.afp_calls_grammar.proofs.OfGrammar.CallLemmas.{readers_sound}
+use Rattle.afp_calls_grammar.proofs.OfGrammar.ReaderLemmas.{spelt_spells}
+use Rattle.afp_calls_grammar.specs.grammar.Call.{Spells}
+use Rattle.afp_calls_grammar.specs.grammar.Commands.{disconnect_old_session_command, get_session_token_command, logout_command}
+use Rattle.afp_calls_grammar.specs.grammar.Spelt.{spelt_call}
+use Rattle.afp_calls_grammar.specs.declared.grammar.call.Call.TheVariants.{DisconnectOldSession, GetSessionToken, Logout}
 use Rattle.afp_serial.proofs.RowsSound.{row-sound}
 use Rattle.afp_serial.proofs.SoundRow.{no_more-kept, no_more-parts}
 use Rattle.afp_serial.proofs.StaysSound.{is_kept_one, kept-cache}

@@ -9,13 +9,13 @@ use Rattle.byteorder.specs.Endian.{big_number}
 use Rattle.byteorder.specs.Numbers.{big_from-lt}
 use Rattle.afp_names.specs.Path.{PathValue}
 use Rattle.afp_base.specs.Cached.{Request}
-use Rattle.afp_calls_grammar.proofs.SpellingLemmas.{AreBytes}
-use Rattle.afp_calls_grammar.proofs.CallLemmas.{readers_sound}
-use Rattle.afp_calls_grammar.proofs.ReaderLemmas.{spelt_spells}
-use Rattle.afp_calls_grammar.specs.Call.{Spells, layout_of}
-use Rattle.afp_calls_grammar.specs.Spelt.{spelt_call}
-use Rattle.afp_calls_grammar.specs.Words.{Word, Value, RequestField, BeginsWith, Enclosed, Nothing, Piece, IsCountedText, IsEnclosed, IsOptional, IsWordSpelling, SpellsPathname, Literal, Pad, LastPad, Even, Number, Within, Count, Optional, Signed32, Signed64, Plain, Counted, Pathname, Tail, count_size}
-use Rattle.afp_calls_grammar.specs.declared.call.Call.{Call}
+use Rattle.afp_calls_grammar.proofs.OfGrammar.SpellingLemmas.{AreBytes}
+use Rattle.afp_calls_grammar.proofs.OfGrammar.CallLemmas.{readers_sound}
+use Rattle.afp_calls_grammar.proofs.OfGrammar.ReaderLemmas.{spelt_spells}
+use Rattle.afp_calls_grammar.specs.grammar.Call.{Spells, layout_of}
+use Rattle.afp_calls_grammar.specs.grammar.Spelt.{spelt_call}
+use Rattle.afp_calls_grammar.specs.grammar.Words.{Word, Value, RequestField, BeginsWith, Enclosed, Nothing, Piece, IsCountedText, IsEnclosed, IsOptional, IsWordSpelling, SpellsPathname, Literal, Pad, LastPad, Even, Number, Within, Count, Optional, Signed32, Signed64, Plain, Counted, Pathname, Tail, count_size}
+use Rattle.afp_calls_grammar.specs.declared.grammar.call.Call.{Call}
 use Rattle.afp_serial.proofs.Keeps.{IsKnown}
 use Rattle.afp_serial.specs.declared.ask.Ask.{Ask}
 use Rattle.afp_serial.specs.declared.ask.Ask.TheVariants as ask

@@ -4,7 +4,7 @@ use Rattle.std.proofs.lemmas.Bool.{leb-true}
 use Rattle.afp_base.specs.Limits.{payload_limit}
 use Rattle.afp_base.specs.declared.code.Code.TheVariants.{Ok}
 use Rattle.afp_replies.specs.Replies.{canonical_reply}
-use Rattle.afp_calls_grammar.specs.declared.call.Call.{Call}
+use Rattle.afp_calls_grammar.specs.declared.grammar.call.Call.{Call}
 use Rattle.afp_serial.proofs.SoundRow.{IsRefusedTo, IsSoundRow, is_ok, tells_user}
 use Rattle.afp_serial.specs.World.{Refused, CallRow}
 use Rattle.afp_serial.specs.ForkLaws.{IsLawfulRow}

@@ -13,9 +13,9 @@ use Rattle.afp_replies.specs.Commands.{rows, shape_in, shape_of}
 use Rattle.afp_replies.specs.Replies.{canonical_reply}
 use Rattle.afp_replies.specs.declared.reply.Reply.{Reply}
 use Rattle.afp_replies.specs.declared.reply.Reply.TheVariants.{Start, StartExt}
-use Rattle.afp_calls_grammar.specs.Words.{i32, i64}
-use Rattle.afp_calls_grammar.specs.declared.call.Call.{Call}
-use Rattle.afp_calls_grammar.specs.declared.call.Call.TheVariants.{ByteRangeLock, ByteRangeLockExt}
+use Rattle.afp_calls_grammar.specs.grammar.Words.{i32, i64}
+use Rattle.afp_calls_grammar.specs.declared.grammar.call.Call.{Call}
+use Rattle.afp_calls_grammar.specs.declared.grammar.call.Call.TheVariants.{ByteRangeLock, ByteRangeLockExt}
 use Rattle.afp_serial.proofs.Closed.{within}
 use Rattle.afp_serial.proofs.LawfulCalls.{field-lawful}
 use Rattle.afp_serial.proofs.OnForkRows.{IsHeld, fork-row-sound, is_own, none-refused, sound-file}

@@ -8,8 +8,8 @@ use Rattle.afp_replies.specs.Commands.{rows, shape_in, shape_of}
 use Rattle.afp_replies.specs.Replies.{Shows, layout_for}
 use Rattle.afp_replies.specs.declared.reply.Reply.TheVariants.{Empty}
 use Rattle.afp_base.specs.declared.code.Code.TheVariants.{Ok}
-use Rattle.afp_calls_grammar.specs.declared.call.Call.{Call}
-use Rattle.afp_calls_grammar.specs.declared.call.Call.TheVariants.{Login, LoginExt, Logout}
+use Rattle.afp_calls_grammar.specs.declared.grammar.call.Call.{Call}
+use Rattle.afp_calls_grammar.specs.declared.grammar.call.Call.TheVariants.{Login, LoginExt, Logout}
 use Rattle.afp_serial.proofs.Closed.{ending-sound, ending-apart}
 use Rattle.afp_serial.proofs.Replaced.{TakesPlace, number_of, numbered, replaced-apart, replaced-old, replaced-sound, volume-kept}
 use Rattle.afp_serial.proofs.SoundRow.{IsSoundRow, no-keeper, no_more-refuses}

@@ -7,7 +7,7 @@ use Rattle.std.proofs.lemmas.Option.{slice_get_within}
 use Rattle.afp_base.specs.Apart.{are_apart}
 use Rattle.afp_base.specs.Choice.{first_holding}
 use Rattle.afp_base.specs.declared.code.Code.TheVariants.{ParamErr}
-use Rattle.afp_calls_grammar.specs.declared.call.Call.{Call}
+use Rattle.afp_calls_grammar.specs.declared.grammar.call.Call.{Call}
 use Rattle.afp_serial.proofs.OnVolumeRows.{IsToldTo, told-shown}
 use Rattle.afp_serial.proofs.SoundParts.{ApartSessions, is_below, opens-parts, same_link, same_number}
 use Rattle.afp_serial.proofs.SoundRow.{IsRefusedTo, IsSoundRow, no_more-refuses}

@@ -12,7 +12,7 @@ use Rattle.afp_replies.specs.Commands.{shape_of}
 use Rattle.afp_replies.specs.Replies.{Shows, canonical_reply}
 use Rattle.afp_replies.specs.Requested.{FitsRequest, IsTold}
 use Rattle.afp_replies.specs.declared.reply.Reply.{Reply}
-use Rattle.afp_calls_grammar.specs.declared.call.Call.{Call}
+use Rattle.afp_calls_grammar.specs.declared.grammar.call.Call.{Call}
 use Rattle.afp_serial.proofs.SessionUsers.{user-long}
 use Rattle.afp_serial.proofs.SoundParts.{ApartSessions}
 use Rattle.afp_serial.proofs.SoundRow.{IsSoundRow, is_refused, is_short, no-keeper, no_more-refuses}

@@ -23,8 +23,8 @@ use Rattle.afp_replies.specs.Commands.{rows, shape_in, shape_of}
 use Rattle.afp_replies.specs.Replies.{canonical_reply}
 use Rattle.afp_replies.specs.Requested.{IsTold}
 use Rattle.afp_replies.specs.declared.reply.Reply.TheVariants.{Opened}
-use Rattle.afp_calls_grammar.specs.declared.call.Call.{Call}
-use Rattle.afp_calls_grammar.specs.declared.call.Call.TheVariants as calls
+use Rattle.afp_calls_grammar.specs.declared.grammar.call.Call.{Call}
+use Rattle.afp_calls_grammar.specs.declared.grammar.call.Call.TheVariants as calls
 use Rattle.afp_serial.proofs.ForkRows.{file-answer}
 use Rattle.afp_serial.proofs.FreeReferences.{lowest-free, lowest-within, opens-few}
 use Rattle.afp_serial.proofs.ListShown.{within}

@@ -9,7 +9,7 @@ use Rattle.afp_bitmap.specs.declared.params.Values.TheVariants.{Volume}
 use Rattle.afp_bitmap.specs.declared.volume.VolumeValues.{VolumeValues}
 use Rattle.afp_replies.specs.declared.reply.Reply.TheVariants.{Params}
 use Rattle.afp_replies.specs.Commands.{rows, shape_in, shape_of}
-use Rattle.afp_calls_grammar.specs.declared.call.Call.TheVariants.{OpenVol}
+use Rattle.afp_calls_grammar.specs.declared.grammar.call.Call.TheVariants.{OpenVol}
 use Rattle.afp_serial.proofs.OnVolumeRows.{Asks, IsToldTo, refused_before-none, refused_before-refused, told-shown}
 use Rattle.afp_serial.proofs.PlacedLists.{any-placed}
 use Rattle.afp_serial.proofs.Replaced.{TakesPlace, number_of, numbered, replaced-apart, replaced-old, replaced-sound, volume-kept}

@@ -4,8 +4,8 @@ use Rattle.std.specs.Prelude.{is_none}
 use Rattle.std.proofs.lemmas.Bool.{and_from, cond_both}
 use Rattle.afp_base.specs.Cached.{Request, Answer, cached_answer}
 use Rattle.afp_base.specs.declared.code.Code.TheVariants.{CallNotSupported, UserNotAuth}
-use Rattle.afp_calls_grammar.specs.Spelt.{is_command, spelt_call}
-use Rattle.afp_calls_grammar.specs.declared.call.Call.{Call}
+use Rattle.afp_calls_grammar.specs.grammar.Spelt.{is_command, spelt_call}
+use Rattle.afp_calls_grammar.specs.declared.grammar.call.Call.{Call}
 use Rattle.afp_serial.proofs.RowsSound.{row-sound}
 use Rattle.afp_serial.proofs.SoundRow.{IsRefusedTo, is_ok, is_short}
 use Rattle.afp_serial.specs.World.{Refused, plain, World, Session}

@@ -11,7 +11,7 @@ use Rattle.afp_replies.specs.Replies.{Shows, canonical_reply}
 use Rattle.afp_replies.specs.Requested.{tells_nothing}
 use Rattle.afp_replies.specs.declared.reply.Reply.TheVariants.{Empty}
 use Rattle.afp_replies.specs.declared.reply.ReplyKind.{ReplyKind}
-use Rattle.afp_calls_grammar.specs.Spelt.{spelt_call}
+use Rattle.afp_calls_grammar.specs.grammar.Spelt.{spelt_call}
 use Rattle.afp_serial.proofs.RowsSound.{row-sound}
 use Rattle.afp_serial.proofs.ShownAnswers.{block_in, code_of, ends_in}
 use Rattle.afp_serial.proofs.SoundRow.{is_refused, no_more-nothing, no_more-parts}

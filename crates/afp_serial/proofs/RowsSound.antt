@@ -1,6 +1,6 @@
 -- What each call's row owes; here it is only dispatched.
-use Rattle.afp_calls_grammar.specs.declared.call.Call.{Call}
-use Rattle.afp_calls_grammar.specs.declared.call.Call.TheVariants.{AddAPPL, AddComment, AddIcon, ByteRangeLock, ByteRangeLockExt, CloseDT, CloseDir, CloseFork, CloseVol, CopyFile, CreateDir, CreateFile, CreateID, Delete, DeleteID, DisconnectOldSession, Enumerate, EnumerateExt, EnumerateExt2, ExchangeFiles, Flush, FlushFork, GetAPPL, GetComment, GetFileDirParms, GetForkParms, GetIcon, GetIconInfo, GetSessionToken, GetSrvrInfo, GetSrvrMsg, GetSrvrParms, GetUserInfo, GetVolParms, Login, LoginExt, Logout, MapID, MapName, MoveAndRename, OpenDT, OpenDir, OpenFork, OpenVol, Read, ReadExt, RemoveAPPL, RemoveComment, Rename, ResolveID, SetDirParms, SetFileDirParms, SetFileParms, SetForkParms, SetVolParms, Write, WriteExt}
+use Rattle.afp_calls_grammar.specs.declared.grammar.call.Call.{Call}
+use Rattle.afp_calls_grammar.specs.declared.grammar.call.Call.TheVariants.{AddAPPL, AddComment, AddIcon, ByteRangeLock, ByteRangeLockExt, CloseDT, CloseDir, CloseFork, CloseVol, CopyFile, CreateDir, CreateFile, CreateID, Delete, DeleteID, DisconnectOldSession, Enumerate, EnumerateExt, EnumerateExt2, ExchangeFiles, Flush, FlushFork, GetAPPL, GetComment, GetFileDirParms, GetForkParms, GetIcon, GetIconInfo, GetSessionToken, GetSrvrInfo, GetSrvrMsg, GetSrvrParms, GetUserInfo, GetVolParms, Login, LoginExt, Logout, MapID, MapName, MoveAndRename, OpenDT, OpenDir, OpenFork, OpenVol, Read, ReadExt, RemoveAPPL, RemoveComment, Rename, ResolveID, SetDirParms, SetFileDirParms, SetFileParms, SetForkParms, SetVolParms, Write, WriteExt}
 use Rattle.afp_serial.proofs.CloseVolRow.{close-vol-sound}
 use Rattle.afp_serial.proofs.CopyRow.{copy-file-sound}
 use Rattle.afp_serial.proofs.DeskRows.{close-dt-sound, get-appl-sound, get-comment-sound, get-icon-info-sound, get-icon-sound, open-dt-sound, resolve-id-sound}

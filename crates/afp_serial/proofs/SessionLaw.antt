@@ -10,10 +10,10 @@ use Rattle.afp_base.specs.Choice.{first_holding}
 use Rattle.afp_base.specs.declared.code.Code.{Code}
 use Rattle.afp_base.specs.declared.code.Code.TheVariants as code
 use Rattle.afp_base.specs.declared.ids.LinkNumber.{LinkNumber}
-use Rattle.afp_calls_grammar.specs.Commands.{logout_command}
-use Rattle.afp_calls_grammar.specs.Spelt.{is_command, spelt_call}
-use Rattle.afp_calls_grammar.specs.declared.call.Call.{Call}
-use Rattle.afp_calls_grammar.specs.declared.call.Call.TheVariants.{DisconnectOldSession, GetSessionToken, Logout}
+use Rattle.afp_calls_grammar.specs.grammar.Commands.{logout_command}
+use Rattle.afp_calls_grammar.specs.grammar.Spelt.{is_command, spelt_call}
+use Rattle.afp_calls_grammar.specs.declared.grammar.call.Call.{Call}
+use Rattle.afp_calls_grammar.specs.declared.grammar.call.Call.TheVariants.{DisconnectOldSession, GetSessionToken, Logout}
 use Rattle.afp_replies.specs.Replies.{canonical_reply}
 use Rattle.afp_replies.specs.declared.reply.Reply.TheVariants.{Token}
 use Rattle.afp_serial.proofs.KeptWishes.{back-unkept, kept-parts, lawful-kept, logout-begins, logout-unkept, refused-kept, token-unkept}

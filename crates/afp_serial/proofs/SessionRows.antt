@@ -21,8 +21,8 @@ use Rattle.afp_replies.specs.Replies.{canonical_reply, message_bytes, volume_byt
 use Rattle.afp_replies.specs.Requested.{FitsRequest}
 use Rattle.afp_replies.specs.declared.reply.Reply.{Reply}
 use Rattle.afp_replies.specs.declared.reply.Reply.TheVariants.{MappedId, MappedName, Message, ServerParams, Status}
-use Rattle.afp_calls_grammar.specs.declared.call.Call.{Call}
-use Rattle.afp_calls_grammar.specs.declared.call.Call.TheVariants.{GetSrvrInfo, GetSrvrMsg, GetSrvrParms, GetUserInfo, MapID, MapName}
+use Rattle.afp_calls_grammar.specs.declared.grammar.call.Call.{Call}
+use Rattle.afp_calls_grammar.specs.declared.grammar.call.Call.TheVariants.{GetSrvrInfo, GetSrvrMsg, GetSrvrParms, GetUserInfo, MapID, MapName}
 use Rattle.afp_serial.proofs.ListShown.{within}
 use Rattle.afp_serial.proofs.OnVolumeRows.{Asks}
 use Rattle.afp_serial.proofs.SessionUsers.{house-of, is_small, known-small, users-small}

@@ -8,7 +8,7 @@ use Rattle.byteorder.specs.Endian.{big_bytes}
 use Rattle.afp_replies.specs.Replies.{canonical_reply}
 use Rattle.afp_replies.specs.Commands.{rows, shape_in, shape_of}
 use Rattle.afp_replies.specs.declared.reply.Reply.TheVariants.{Empty, Token}
-use Rattle.afp_calls_grammar.specs.declared.call.Call.TheVariants.{DisconnectOldSession, GetSessionToken}
+use Rattle.afp_calls_grammar.specs.declared.grammar.call.Call.TheVariants.{DisconnectOldSession, GetSessionToken}
 use Rattle.afp_serial.proofs.OnVolumeRows.{Asks, IsToldTo, told-shown}
 use Rattle.afp_serial.proofs.OtherPlaces.{rejoined, rejoins-apart, rejoins-sound}
 use Rattle.afp_serial.proofs.Replaced.{number_of, replaced-old}

@@ -14,8 +14,8 @@ use Rattle.afp_replies.specs.Replies.{Shows, canonical_reply}
 use Rattle.afp_replies.specs.Requested.{FitsRequest, tells_nothing}
 use Rattle.afp_replies.specs.declared.reply.Reply.{Reply}
 use Rattle.afp_replies.specs.declared.reply.Reply.TheVariants.{Empty}
-use Rattle.afp_calls_grammar.specs.declared.call.Call.{Call}
-use Rattle.afp_calls_grammar.specs.declared.call.Call.TheVariants.{GetUserInfo}
+use Rattle.afp_calls_grammar.specs.declared.grammar.call.Call.{Call}
+use Rattle.afp_calls_grammar.specs.declared.grammar.call.Call.TheVariants.{GetUserInfo}
 use Rattle.afp_serial.proofs.SoundParts.{ApartSessions}
 use Rattle.afp_serial.specs.World.{Refusal, Refused, CallRow, has_session, World, Session}
 use Rattle.afp_serial.specs.KeptAnswers.{is_kept_code}

@@ -7,8 +7,8 @@ use Rattle.afp_base.specs.Limits.{payload_limit, replay_cache_size}
 use Rattle.afp_base.specs.Cached.{Request, Answer, Kept, is_repeat, either, cached_answer}
 use Rattle.afp_base.specs.declared.code.Code.TheVariants as code
 use Rattle.afp_base.specs.Apart.{are_apart}
-use Rattle.afp_calls_grammar.specs.Spelt.{spelt_call}
-use Rattle.afp_calls_grammar.specs.declared.call.Call.{Call}
+use Rattle.afp_calls_grammar.specs.grammar.Spelt.{spelt_call}
+use Rattle.afp_calls_grammar.specs.declared.grammar.call.Call.{Call}
 use Rattle.afp_serial.proofs.Closed.{ending-sound}
 use Rattle.afp_serial.proofs.Keeps.{IsKnown, Keeps, after-keeps}
 use Rattle.afp_serial.proofs.KeptAnswers.{has_none, kept-sound}

@@ -11,8 +11,8 @@ use Rattle.afp_replies.specs.declared.list.ListEntry.{ListEntry}
 use Rattle.afp_replies.specs.declared.reply.Reply.TheVariants as replies
 use Rattle.afp_replies.specs.declared.reply.Reply.TheVariants.{Empty, FileDirParams, Node, Params}
 use Rattle.afp_replies.specs.Commands.{rows, shape_in, shape_of}
-use Rattle.afp_calls_grammar.specs.Words.{u16}
-use Rattle.afp_calls_grammar.specs.declared.call.Call.TheVariants.{CloseDir, Enumerate, EnumerateExt, EnumerateExt2, Flush, GetFileDirParms, GetVolParms, OpenDir}
+use Rattle.afp_calls_grammar.specs.grammar.Words.{u16}
+use Rattle.afp_calls_grammar.specs.declared.grammar.call.Call.TheVariants.{CloseDir, Enumerate, EnumerateExt, EnumerateExt2, Flush, GetFileDirParms, GetVolParms, OpenDir}
 use Rattle.afp_serial.proofs.LawfulCalls.{field-lawful}
 use Rattle.afp_serial.proofs.OnVolumeRows.{Asks, keeper-there, on-refused, tells-sound, told-shown}
 use Rattle.afp_serial.proofs.SoundRow.{IsSoundRow, no-keeper, no_more-refuses}

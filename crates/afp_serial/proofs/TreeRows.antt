@@ -6,8 +6,8 @@ use Rattle.afp_base.specs.declared.ids.VolumeId.{VolumeId}
 use Rattle.afp_names.specs.Path.{PathValue}
 use Rattle.afp_replies.specs.declared.reply.Reply.TheVariants.{Empty, Node}
 use Rattle.afp_replies.specs.Commands.{rows, shape_in, shape_of}
-use Rattle.afp_calls_grammar.specs.Words.{pathname, tail}
-use Rattle.afp_calls_grammar.specs.declared.call.Call.TheVariants as calls
+use Rattle.afp_calls_grammar.specs.grammar.Words.{pathname, tail}
+use Rattle.afp_calls_grammar.specs.declared.grammar.call.Call.TheVariants as calls
 use Rattle.afp_serial.proofs.LawfulCalls.{field-lawful}
 use Rattle.afp_serial.proofs.OnVolumeRows.{Asks, changes-sound}
 use Rattle.afp_serial.proofs.SoundRow.{IsSoundRow}

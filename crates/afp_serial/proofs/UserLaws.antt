@@ -8,7 +8,7 @@ use Rattle.afp_base.proofs.ListFacts.{find-all, find-passes}
 use Rattle.afp_base.specs.Choice.{first_holding}
 use Rattle.afp_base.specs.Limits.{password_size}
 use Rattle.afp_base.specs.declared.code.Code.TheVariants.{UserNotAuth}
-use Rattle.afp_calls_grammar.specs.LoginNames.{cleartext}
+use Rattle.afp_calls_grammar.specs.grammar.LoginNames.{cleartext}
 use Rattle.afp_serial.proofs.SoundParts.{users-parts}
 use Rattle.volume_spec.proofs.Ordered.{is-here, is-later}
 use Rattle.afp_serial.specs.Login.{Credentials, credentials_at, is_cleartext, is_user, logs_in_row, named, tail_place, user_given}

@@ -4,8 +4,8 @@ use Rattle.std.specs.Prelude.{is_none}
 use Rattle.std.proofs.lemmas.Bool.{cond_both, not-false}
 use Rattle.afp_base.specs.Cached.{Request, Answer, cached_answer}
 use Rattle.afp_base.specs.declared.code.Code.TheVariants.{CallNotSupported, ParamErr, UserNotAuth}
-use Rattle.afp_calls_grammar.specs.Spelt.{is_command, spelt_call}
-use Rattle.afp_calls_grammar.specs.declared.call.Call.{Call}
+use Rattle.afp_calls_grammar.specs.grammar.Spelt.{is_command, spelt_call}
+use Rattle.afp_calls_grammar.specs.declared.grammar.call.Call.{Call}
 use Rattle.afp_serial.proofs.SoundRow.{is_refused}
 use Rattle.afp_serial.specs.Laws.{ComesToCall}
 use Rattle.afp_serial.specs.World.{Refused, plain, World, Session}

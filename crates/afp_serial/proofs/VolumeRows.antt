@@ -6,7 +6,7 @@ use Rattle.std.proofs.lemmas.Option.{slice_get_within}
 use Rattle.afp_base.specs.Choice.{first_holding}
 use Rattle.afp_base.specs.declared.code.Code.{Code}
 use Rattle.afp_replies.specs.declared.reply.Reply.{Reply}
-use Rattle.afp_calls_grammar.specs.declared.call.Call.{Call}
+use Rattle.afp_calls_grammar.specs.declared.grammar.call.Call.{Call}
 use Rattle.afp_serial.proofs.OnVolumeRows.{IsToldTo, done-keeps, on-passes, on-refused, told-shown}
 use Rattle.afp_serial.proofs.SessionUsers.{user-long}
 use Rattle.afp_serial.proofs.SoundParts.{ApartSessions}

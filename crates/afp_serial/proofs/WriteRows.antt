@@ -14,10 +14,10 @@ use Rattle.afp_replies.specs.Commands.{rows, shape_in, shape_of}
 use Rattle.afp_replies.specs.Replies.{canonical_reply}
 use Rattle.afp_replies.specs.declared.reply.Reply.{Reply}
 use Rattle.afp_replies.specs.declared.reply.Reply.TheVariants.{Empty, End, EndExt}
-use Rattle.afp_calls_grammar.specs.Call.{layout_of}
-use Rattle.afp_calls_grammar.specs.Words.{i32, i64}
-use Rattle.afp_calls_grammar.specs.declared.call.Call.{Call}
-use Rattle.afp_calls_grammar.specs.declared.call.Call.TheVariants.{SetForkParms, Write, WriteExt}
+use Rattle.afp_calls_grammar.specs.grammar.Call.{layout_of}
+use Rattle.afp_calls_grammar.specs.grammar.Words.{i32, i64}
+use Rattle.afp_calls_grammar.specs.declared.grammar.call.Call.{Call}
+use Rattle.afp_calls_grammar.specs.declared.grammar.call.Call.TheVariants.{SetForkParms, Write, WriteExt}
 use Rattle.afp_serial.proofs.LawfulCalls.{field-lawful}
 use Rattle.afp_serial.proofs.OnForkRows.{IsHeld, IsHeldFile, fork-row-sound, none-refused, sound-file}
 use Rattle.afp_serial.proofs.OnVolumeRows.{Asks, IsToldTo}

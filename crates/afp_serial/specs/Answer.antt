@@ -13,8 +13,8 @@ use Rattle.afp_serial.specs.declared.ask.Told.{Told}
 use Rattle.afp_serial.specs.declared.ask.Told.TheVariants as told
 use Rattle.afp_serial.specs.declared.attachment.Attachment.TheVariants.{Attached, Detached}
 use Rattle.afp_replies.specs.Replies.{canonical_reply}
-use Rattle.afp_calls_grammar.specs.Commands.{get_srvr_info_command, login_command, login_ext_command, logout_command}
-use Rattle.afp_calls_grammar.specs.declared.call.Call.{Call}
+use Rattle.afp_calls_grammar.specs.grammar.Commands.{get_srvr_info_command, login_command, login_ext_command, logout_command}
+use Rattle.afp_calls_grammar.specs.declared.grammar.call.Call.{Call}
 use Rattle.afp_serial.specs.KeptAnswers.{block_of, enclosed_of, keeping, kept_answer}
 use Rattle.afp_serial.specs.World.{Effect, Refused, session_at, ending, is_expired, with_session, without_session, World, Session, at_moment, plain}
 use Rattle.afp_serial.specs.Limits.{most_sessions, links_end}
@@ -22,7 +22,7 @@ use Rattle.afp_serial.specs.Ranges.{is_typed_entry}
 use Rattle.afp_serial.specs.Rows.{effect, committed, ends_session, refusal}
 use Rattle.std.specs.List.{list_any}
 use Rattle.afp_base.specs.declared.code.Code.TheVariants.{ParamErr, CallNotSupported, UserNotAuth}
-use Rattle.afp_calls_grammar.specs.Spelt.{is_command, spelt_call}
+use Rattle.afp_calls_grammar.specs.grammar.Spelt.{is_command, spelt_call}
 
 -- The steps by which a call of a session is decided (this profile). The first of these that applies gives the answer:
 -- an equal request whose answer is kept; no command; a command that is none; no user, where the command asks for one; no spelling

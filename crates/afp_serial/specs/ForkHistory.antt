@@ -3,8 +3,8 @@ use Rattle.std.specs.Prelude.{ℕ, pos, Bool, true, ◌&&◌, if◌then◌else�
 use Rattle.std.specs.List.{list_any}
 use Rattle.afp_base.specs.Cached.{Request}
 use Rattle.afp_base.specs.DenyMode.{Fork, is_one_fork}
-use Rattle.afp_calls_grammar.specs.declared.call.Call.{Call}
-use Rattle.afp_calls_grammar.specs.declared.call.Call.TheVariants.{ExchangeFiles, SetForkParms, Write, WriteExt}
+use Rattle.afp_calls_grammar.specs.declared.grammar.call.Call.{Call}
+use Rattle.afp_calls_grammar.specs.declared.grammar.call.Call.TheVariants.{ExchangeFiles, SetForkParms, Write, WriteExt}
 use Rattle.volume_spec.specs.ExchangeFiles.{Pair}
 use Rattle.volume_spec.specs.ForkEffect.{fork_of}
 use Rattle.volume_spec.specs.VolumeState.{VolumeState}

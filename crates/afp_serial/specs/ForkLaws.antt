@@ -10,9 +10,9 @@ use Rattle.afp_base.specs.declared.ids.VolumeId.{VolumeId}
 use Rattle.afp_names.specs.Path.{PathValue}
 use Rattle.afp_replies.specs.Replies.{Shows, canonical_reply}
 use Rattle.afp_replies.specs.declared.reply.Reply.{Reply}
-use Rattle.afp_calls_grammar.specs.declared.call.Call.{Call}
-use Rattle.afp_calls_grammar.specs.declared.call.Call.TheVariants as calls
-use Rattle.afp_calls_grammar.specs.declared.call.Call.TheVariants.{ByteRangeLock, ByteRangeLockExt, CloseFork, FlushFork, GetForkParms, Read, ReadExt, SetForkParms, Write, WriteExt}
+use Rattle.afp_calls_grammar.specs.declared.grammar.call.Call.{Call}
+use Rattle.afp_calls_grammar.specs.declared.grammar.call.Call.TheVariants as calls
+use Rattle.afp_calls_grammar.specs.declared.grammar.call.Call.TheVariants.{ByteRangeLock, ByteRangeLockExt, CloseFork, FlushFork, GetForkParms, Read, ReadExt, SetForkParms, Write, WriteExt}
 use Rattle.afp_serial.specs.OnFork.{OpenFile, is_met_by_other}
 use Rattle.afp_base.specs.DenyMode.{Access, Conflicts, Fork}
 use Rattle.afp_base.specs.Overlap.{Covers, Range}

@@ -7,8 +7,8 @@ use Rattle.afp_base.specs.ForkBytes.{taken}
 use Rattle.afp_base.specs.Overlap.{Covers}
 use Rattle.afp_base.specs.declared.code.Code.TheVariants.{Ok}
 use Rattle.afp_base.specs.declared.ids.ForkRef.{ForkRef}
-use Rattle.afp_calls_grammar.specs.declared.call.Call.{Call}
-use Rattle.afp_calls_grammar.specs.declared.call.Call.TheVariants.{Read, ReadExt, Write, WriteExt}
+use Rattle.afp_calls_grammar.specs.declared.grammar.call.Call.{Call}
+use Rattle.afp_calls_grammar.specs.declared.grammar.call.Call.TheVariants.{Read, ReadExt, Write, WriteExt}
 use Rattle.afp_serial.specs.declared.ask.Ask.TheVariants as ask
 use Rattle.afp_serial.specs.declared.ask.Entry.{Entry}
 use Rattle.afp_serial.specs.declared.ask.Outcome.TheVariants.{Done}

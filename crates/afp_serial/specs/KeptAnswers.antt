@@ -5,7 +5,7 @@ use Rattle.std.specs.List.{list_any}
 use Rattle.afp_base.specs.Cached.{Request, Answer, with_kept}
 use Rattle.afp_base.specs.declared.code.Code.{Code}
 use Rattle.afp_base.specs.declared.code.Code.TheVariants as code
-use Rattle.afp_calls_grammar.specs.Commands.{disconnect_old_session_command, get_session_token_command, login_command, login_ext_command, logout_command}
+use Rattle.afp_calls_grammar.specs.grammar.Commands.{disconnect_old_session_command, get_session_token_command, login_command, login_ext_command, logout_command}
 use Rattle.afp_serial.specs.declared.ask.Told.{Told}
 use Rattle.afp_serial.specs.declared.ask.Told.TheVariants as told
 use Rattle.afp_serial.specs.World.{World, Session}

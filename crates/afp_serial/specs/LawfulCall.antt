@@ -1,9 +1,9 @@
 -- What is known of a call that bytes spell: its numbers are in the ranges of their fields, its texts are bytes, and its paths go down to names (AFP Reference, "Command formats", "Pathnames").
 use Rattle.std.specs.Prelude.{ℕ, ℤ, pos, negsuc, ◌^◌, ◌==◌, nat_lt, Bool, true, ◌&&◌, List, length, Option, None, Some}
 use Rattle.std.specs.List.{list_all}
-use Rattle.afp_calls_grammar.specs.Call.{layout_of}
-use Rattle.afp_calls_grammar.specs.Words.{Word, Value, RequestField, Enclosed, Nothing, Piece, Literal, Pad, LastPad, Even, Number, Within, Count, Optional, Signed32, Signed64, Plain, Counted, Pathname, Tail}
-use Rattle.afp_calls_grammar.specs.declared.call.Call.{Call}
+use Rattle.afp_calls_grammar.specs.grammar.Call.{layout_of}
+use Rattle.afp_calls_grammar.specs.grammar.Words.{Word, Value, RequestField, Enclosed, Nothing, Piece, Literal, Pad, LastPad, Even, Number, Within, Count, Optional, Signed32, Signed64, Plain, Counted, Pathname, Tail}
+use Rattle.afp_calls_grammar.specs.declared.grammar.call.Call.{Call}
 use Rattle.volume_spec.specs.TypedVolume.{are_bytes}
 use Rattle.volume_spec.specs.Walk.{is_named_path}
 

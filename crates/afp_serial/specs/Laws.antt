@@ -8,8 +8,8 @@ use Rattle.afp_base.specs.declared.ids.LinkNumber.{LinkNumber}
 use Rattle.afp_replies.specs.Replies.{Shows, canonical_reply}
 use Rattle.afp_replies.specs.declared.reply.Reply.TheVariants.{Empty}
 use Rattle.afp_replies.specs.declared.reply.ReplyKind.{ReplyKind}
-use Rattle.afp_calls_grammar.specs.Spelt.{is_command, spelt_call}
-use Rattle.afp_calls_grammar.specs.declared.call.Call.{Call}
+use Rattle.afp_calls_grammar.specs.grammar.Spelt.{is_command, spelt_call}
+use Rattle.afp_calls_grammar.specs.declared.grammar.call.Call.{Call}
 use Rattle.volume_spec.specs.TypedVolume.{are_bytes}
 use Rattle.volume_spec.specs.VolumeState.{VolumeState}
 use Rattle.afp_serial.specs.declared.ask.Ask.{Ask}

@@ -3,7 +3,7 @@ use Rattle.std.specs.Prelude.{ℕ, ◌+◌, ◌%◌, nat_le, Bool, not, ◌&&◌
 use Rattle.std.specs.List.{list_any}
 use Rattle.afp_base.specs.Limits.{password_size}
 use Rattle.afp_base.specs.declared.code.Code.TheVariants.{BadUAM, BadVersNum, ParamErr, UserNotAuth}
-use Rattle.afp_calls_grammar.specs.LoginNames.{cleartext}
+use Rattle.afp_calls_grammar.specs.grammar.LoginNames.{cleartext}
 use Rattle.afp_serial.specs.declared.user.User.{User}
 use Rattle.afp_serial.specs.StatusWords.{uams, versions}
 use Rattle.afp_serial.specs.Users.{guest_id}

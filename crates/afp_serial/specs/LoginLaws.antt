@@ -2,8 +2,8 @@
 use Rattle.std.specs.Prelude.{◌≡◌, ◌⊎◌, ℕ, Bool, List, None, Some, find, take}
 use Rattle.std.specs.List.{Contains}
 use Rattle.afp_base.specs.Limits.{password_size}
-use Rattle.afp_calls_grammar.specs.LoginNames.{cleartext, no_user}
-use Rattle.afp_calls_grammar.specs.declared.call.Call.TheVariants.{Login, LoginExt}
+use Rattle.afp_calls_grammar.specs.grammar.LoginNames.{cleartext, no_user}
+use Rattle.afp_calls_grammar.specs.declared.grammar.call.Call.TheVariants.{Login, LoginExt}
 use Rattle.afp_serial.specs.Login.{Credentials, credentials_at, tail_place}
 use Rattle.afp_serial.specs.Rows.{effect, refusal}
 use Rattle.afp_serial.specs.Sound.{IsSound}

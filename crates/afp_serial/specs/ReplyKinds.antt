@@ -1,10 +1,10 @@
 -- What the reply to a call must be read by: its command, and the bits that it asks for (AFP Reference, "AFP Calls").
 use Rattle.std.specs.Prelude.{ℕ, List, [], ◌∷◌}
 use Rattle.afp_replies.specs.declared.reply.ReplyKind.{ReplyKind}
-use Rattle.afp_calls_grammar.specs.Call.{layout_of}
-use Rattle.afp_calls_grammar.specs.Words.{RequestField, Word, Literal}
-use Rattle.afp_calls_grammar.specs.declared.call.Call.{Call}
-use Rattle.afp_calls_grammar.specs.declared.call.Call.TheVariants.{Enumerate, EnumerateExt, EnumerateExt2, GetAPPL, GetFileDirParms, GetForkParms, GetSrvrMsg, GetUserInfo, GetVolParms, MapID, OpenFork, OpenVol, ResolveID}
+use Rattle.afp_calls_grammar.specs.grammar.Call.{layout_of}
+use Rattle.afp_calls_grammar.specs.grammar.Words.{RequestField, Word, Literal}
+use Rattle.afp_calls_grammar.specs.declared.grammar.call.Call.{Call}
+use Rattle.afp_calls_grammar.specs.declared.grammar.call.Call.TheVariants.{Enumerate, EnumerateExt, EnumerateExt2, GetAPPL, GetFileDirParms, GetForkParms, GetSrvrMsg, GetUserInfo, GetVolParms, MapID, OpenFork, OpenVol, ResolveID}
 
 -- the number that a word stands for
 abbrev pub literal_of : Word → ℕ

@@ -1,7 +1,7 @@
 -- The row of a call, each under the call's name; here they are only dispatched.
 use Rattle.std.specs.Prelude.{ℕ, Bool, true, false, Option}
-use Rattle.afp_calls_grammar.specs.declared.call.Call.{Call}
-use Rattle.afp_calls_grammar.specs.declared.call.Call.TheVariants.{AddAPPL, AddComment, AddIcon, ByteRangeLock, ByteRangeLockExt, CloseDT, CloseDir, CloseFork, CloseVol, CopyFile, CreateDir, CreateFile, CreateID, Delete, DeleteID, DisconnectOldSession, Enumerate, EnumerateExt, EnumerateExt2, ExchangeFiles, Flush, FlushFork, GetAPPL, GetComment, GetFileDirParms, GetForkParms, GetIcon, GetIconInfo, GetSessionToken, GetSrvrInfo, GetSrvrMsg, GetSrvrParms, GetUserInfo, GetVolParms, Login, LoginExt, Logout, MapID, MapName, MoveAndRename, OpenDT, OpenDir, OpenFork, OpenVol, Read, ReadExt, RemoveAPPL, RemoveComment, Rename, ResolveID, SetDirParms, SetFileDirParms, SetFileParms, SetForkParms, SetVolParms, Write, WriteExt}
+use Rattle.afp_calls_grammar.specs.declared.grammar.call.Call.{Call}
+use Rattle.afp_calls_grammar.specs.declared.grammar.call.Call.TheVariants.{AddAPPL, AddComment, AddIcon, ByteRangeLock, ByteRangeLockExt, CloseDT, CloseDir, CloseFork, CloseVol, CopyFile, CreateDir, CreateFile, CreateID, Delete, DeleteID, DisconnectOldSession, Enumerate, EnumerateExt, EnumerateExt2, ExchangeFiles, Flush, FlushFork, GetAPPL, GetComment, GetFileDirParms, GetForkParms, GetIcon, GetIconInfo, GetSessionToken, GetSrvrInfo, GetSrvrMsg, GetSrvrParms, GetUserInfo, GetVolParms, Login, LoginExt, Logout, MapID, MapName, MoveAndRename, OpenDT, OpenDir, OpenFork, OpenVol, Read, ReadExt, RemoveAPPL, RemoveComment, Rename, ResolveID, SetDirParms, SetFileDirParms, SetFileParms, SetForkParms, SetVolParms, Write, WriteExt}
 use Rattle.afp_base.specs.Choice.{first_holding}
 use Rattle.afp_serial.specs.World.{Effect, Refused, CallRow, World, Session}
 use Rattle.afp_serial.specs.Appls.{add_appl_row, get_appl_row, remove_appl_row}

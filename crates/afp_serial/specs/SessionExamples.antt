@@ -1,7 +1,7 @@
 -- Worked examples of logins, and of the calls that tell of users, of messages and of the server (values worked by hand).
 use Rattle.std.specs.Prelude.{◌≡◌, ℕ, List, [], ◌∷◌, ◌++◌, Option, None, Some, codes}
 use Rattle.afp_base.specs.declared.code.Code.TheVariants.{BadUAM, BadVersNum, BitmapErr, ItemNotFound, Ok, ParamErr, UserNotAuth}
-use Rattle.afp_calls_grammar.specs.LoginNames.{cleartext, no_user, version_3_3}
+use Rattle.afp_calls_grammar.specs.grammar.LoginNames.{cleartext, no_user, version_3_3}
 use Rattle.afp_serial.specs.Answer.{new_session}
 use Rattle.afp_serial.specs.ForkExamples.{tells}
 use Rattle.afp_serial.specs.GetSrvrMsg.{get_srvr_msg_row}

@@ -1,8 +1,8 @@
 -- The laws of rows on sessions, in the subject's own words: what a call leaves of them (this profile).
 use Rattle.std.specs.Prelude.{◌≡◌, ℕ, ◌==◌, Bool, true, false, not, List, find, filter, map, Option, None, Some}
 use Rattle.afp_base.specs.Cached.{Request, Kept, cached_answer}
-use Rattle.afp_calls_grammar.specs.declared.call.Call.{Call}
-use Rattle.afp_calls_grammar.specs.declared.call.Call.TheVariants.{DisconnectOldSession, Login, LoginExt, Logout}
+use Rattle.afp_calls_grammar.specs.declared.grammar.call.Call.{Call}
+use Rattle.afp_calls_grammar.specs.declared.grammar.call.Call.TheVariants.{DisconnectOldSession, Login, LoginExt, Logout}
 use Rattle.afp_serial.specs.declared.attachment.Attachment.{Attachment}
 use Rattle.afp_serial.specs.Rows.{effect}
 use Rattle.afp_serial.specs.Sound.{IsSound}

@@ -3,9 +3,9 @@
 use Rattle.std.specs.Prelude.{◌≡◌, ◌≢◌, ◌⊎◌, ◌<◌, ℕ, suc, nat_eq, Bool, true, false, if◌then◌else◌, List, [], Option, None, Some, find, is_some}
 use Rattle.afp_base.specs.Cached.{Request, Answer, Kept, cached_answer, with_kept}
 use Rattle.afp_base.specs.declared.code.Code.TheVariants.{MiscErr, NoMemory, Ok}
-use Rattle.afp_calls_grammar.specs.Spelt.{spelt_call}
-use Rattle.afp_calls_grammar.specs.declared.call.Call.{Call}
-use Rattle.afp_calls_grammar.specs.declared.call.Call.TheVariants.{DisconnectOldSession, GetSessionToken, Logout}
+use Rattle.afp_calls_grammar.specs.grammar.Spelt.{spelt_call}
+use Rattle.afp_calls_grammar.specs.declared.grammar.call.Call.{Call}
+use Rattle.afp_calls_grammar.specs.declared.grammar.call.Call.TheVariants.{DisconnectOldSession, GetSessionToken, Logout}
 use Rattle.afp_replies.specs.Replies.{canonical_reply}
 use Rattle.afp_replies.specs.declared.reply.Reply.TheVariants.{Token}
 use Rattle.afp_serial.specs.declared.ask.Ask.{Ask}

@@ -1,6 +1,6 @@
 -- The words by which a server announces itself in its status block, and by which it takes logins (AFP Reference, FPGetSrvrInfo, FPLogin).
 use Rattle.std.specs.Prelude.{ℕ, ◌+◌, List, [], ◌∷◌, codes}
-use Rattle.afp_calls_grammar.specs.LoginNames.{version_3_3, version_3_2, version_3_1, no_user, cleartext}
+use Rattle.afp_calls_grammar.specs.grammar.LoginNames.{version_3_3, version_3_2, version_3_1, no_user, cleartext}
 
 -- what kind of machine the server is
 abbrev pub machine_type : List ℕ

@@ -1,6 +1,8 @@
 //! The words by which a server announces itself in its status block, and by which it takes logins (AFP
 //! Reference, "FPGetSrvrInfo", "FPLogin").
-use afp_calls_grammar::login_names::{CLEARTEXT, NO_USER, VERSION_3_1, VERSION_3_2, VERSION_3_3};
+use afp_calls_grammar::grammar::login_names::{
+    CLEARTEXT, NO_USER, VERSION_3_1, VERSION_3_2, VERSION_3_3,
+};
 
 /// What kind of machine the server is.
 pub const MACHINE_TYPE: &str = "Macintosh";

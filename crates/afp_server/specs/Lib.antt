@@ -1,15 +1,2 @@
-pub mod Calls
-pub mod CloseSession
-pub mod Complete
-pub mod Did
-pub mod GetStatus
-pub mod LinkRun
-pub mod OpenSession
-pub mod Passing
-pub mod Requests
-pub mod Script
-pub mod Trace
-pub mod Tally
-pub mod Wire
-pub mod Written
-pub mod lemma
+pub mod link
+pub mod doors

@@ -1,24 +1,13 @@
 //! Links served over any teller: frames come in by reads, or as pieces, and their replies go out.
+//! All links of a door, served one after the other over any teller.
 #![tactic(auto)]
 
-mod frames;
-mod idle;
-mod laws;
-mod reply;
-mod requests;
-mod script_laws;
-mod send;
-mod serve;
-mod session;
-mod stage;
-mod tally;
-mod wire;
+mod doors;
+mod link;
 
-pub use laws::{
-    each_request_has_its_reply, what_happens_follows_the_script, what_is_written_beside_replies,
+pub use doors::{WorkerEnd, serve_all};
+pub use link::{
+    FrameEnd, Idle, LinkEnd, LinkRoom, Stage, Tally, Wire, WireEnd, a_frame_is_timely,
+    each_request_has_its_reply, scripts_join, serve_link, what_happens_follows_the_script,
+    what_is_written_beside_replies,
 };
-pub use script_laws::{a_frame_is_timely, scripts_join};
-pub use serve::{LinkEnd, LinkRoom, serve_link};
-pub use stage::{FrameEnd, Idle, Stage};
-pub use tally::Tally;
-pub use wire::{Wire, WireEnd};

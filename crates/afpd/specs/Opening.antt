@@ -2,8 +2,8 @@
 use Rattle.std.specs.Prelude.{◌≡◌, true, false}
 use Rattle.std.specs.FinMap.{empty}
 use Rattle.record_keeper.specs.Planned.{fails_next, never_fails}
-use Rattle.afpd_lib.specs.declared.setup.VolumePlace.{VolumePlace}
-use Rattle.afpd_lib.specs.declared.setup.VolumePlace.TheVariants as places
+use Rattle.afpd_lib.specs.declared.server.setup.VolumePlace.{VolumePlace}
+use Rattle.afpd_lib.specs.declared.server.setup.VolumePlace.TheVariants as places
 use Rattle.afpd.specs.declared.opening.PlaceKeeper.{PlaceKeeper}
 use Rattle.afpd.specs.declared.opening.PlaceKeeper.TheVariants as keepers
 

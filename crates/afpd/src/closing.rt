@@ -1,6 +1,6 @@
 //! What is left of the volumes' files at an orderly end.
 
-use afpd_lib::setup::VolumePlace;
+use afpd_lib::server::setup::VolumePlace;
 use sqlite_durable_file::empty_log;
 use std::str;
 

@@ -9,12 +9,12 @@ mod opening;
 
 use afp_core::Counts;
 use afp_outside::{OpenGate, Sink, StdSink, SystemClock, TcpDoor};
-use afpd_lib::ends::{RunEnd, report_end};
-use afpd_lib::given::given_words;
-use afpd_lib::notes::NoNotes;
-use afpd_lib::server::{Finish, afpd};
-use afpd_lib::setup::{ServerSettings, VolumePlace, setup};
-use afpd_words::WordFault;
+use afpd_lib::WordFault;
+use afpd_lib::server::ends::{RunEnd, report_end};
+use afpd_lib::server::given::given_words;
+use afpd_lib::server::notes::NoNotes;
+use afpd_lib::server::server::{Finish, afpd};
+use afpd_lib::server::setup::{ServerSettings, VolumePlace, setup};
 use closing::close_logs;
 use doors::doors_at;
 use opening::{PlaceKeeper, open_place};

@@ -3,8 +3,8 @@ ghost use Rattle.std.specs.Prelude.{IfOk};
 ghost use Rattle.afpd.specs.Opening.{Opens, OpensFile};
 
 use afp_base::OutOfMemory;
-use afpd_lib::setup::VolumePlace;
-use afpd_lib::unopened::unopened_keeper;
+use afpd_lib::server::setup::VolumePlace;
+use afpd_lib::server::unopened::unopened_keeper;
 use record_keeper::MemoryKeeper;
 use sqlite_durable_file::{FileKeeper, OpenFault};
 use std::str;

@@ -1,6 +1,2 @@
-pub mod Failing
-pub mod Faultless
-pub mod HouseEnds
-pub mod OneHouse
-pub mod ReportLemmas
-pub mod RunLaws
+pub mod OfWords
+pub mod OfServer

@@ -1,6 +1,2 @@
-pub mod AskedHouse
-pub mod Complete
-pub mod Reporting
-pub mod Run
-pub mod Setup
-pub mod lemma
+pub mod words
+pub mod server

@@ -4,10 +4,8 @@
 
 use afp_base::{Bytes, NO_LIMIT, OutOfMemory};
 use afp_outside::{StdSink, StdSource, TcpDialer};
-use afpd_lib::given::given_words;
-use afptool_client::addresses;
-use afptool_lib::afptool;
-use capture_log_teller::memory_keepers;
+use afpd_lib::server::given::given_words;
+use afptool_lib::{addresses, afptool, memory_keepers};
 use std::process::ExitCode;
 
 /// The exit status for want of memory.

@@ -1,2 +1,3 @@
-pub mod CheckLemmas
-pub mod ParcelLemmas
+pub mod OfClient
+pub mod OfTeller
+pub mod OfTool

@@ -1,6 +1,3 @@
-pub mod Checking
-pub mod Lines
-pub mod Parcelling
-pub mod Telling
-pub mod Tool
-pub mod lemma
+pub mod client
+pub mod teller
+pub mod tool

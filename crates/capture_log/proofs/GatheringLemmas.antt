@@ -5,7 +5,7 @@ use Rattle.std.specs.List.{onto_first}
 use Rattle.std.proofs.lemmas.Bool.Decides.{eqb_tells, leb_tells}
 use Rattle.std.proofs.lemmas.List.Elements.{All-append, All-nil}
 use Rattle.std.proofs.lemmas.List.Splits.{slice_split_at, slice_split_none}
-use Rattle.capture_log_lines.specs.Lines.{line_in, longest_line}
+use Rattle.capture_log_lines.specs.log.Lines.{line_in, longest_line}
 use Rattle.capture_log.specs.lemma.Gathering.{ReaderState, IsOneLine, AreLines, ended_lines, Holds, EndsLine}
 use Rattle.capture_log.specs.Judged.{Decides, DecidesEnd, JudgedAt, Judged}
 use Rattle.capture_log.specs.Reading.{is_newline, pieces, last_line, lines_of, lines_in, Undecided}

@@ -4,13 +4,13 @@ use Rattle.std.specs.Prelude.{Option, Some, None, option_map, bytes_eq, if◌the
 use Rattle.std.specs.List.{before_first, after_first, list_any, list_all, slice_index}
 use Rattle.std.proofs.lemmas.Bool.{leb-true, and_parts}
 use Rattle.std.proofs.lemmas.Bool.Decides.{eqb_tells}
-use Rattle.capture_log_lines.specs.Fields.{is_space, is_colon, is_ascii, is_digit, is_text_word, is_decimal, number_in, sized_in, value_behind, filled}
-use Rattle.capture_log_lines.specs.Lines.{line_in, headed, event_in, title_in, name_in, user_in, link_in, link_then, moment_then, what_in, last_link, longest_line}
+use Rattle.capture_log_lines.specs.log.Fields.{is_space, is_colon, is_ascii, is_digit, is_text_word, is_decimal, number_in, sized_in, value_behind, filled}
+use Rattle.capture_log_lines.specs.log.Lines.{line_in, headed, event_in, title_in, name_in, user_in, link_in, link_then, moment_then, what_in, last_link, longest_line}
 use Rattle.afp_base.specs.Limits.{last_moment}
-use Rattle.capture_log_lines.specs.declared.line.Line.{Line}
-use Rattle.capture_log_lines.specs.declared.line.Line.TheVariants.{Title, Server, Signature, User as UserLine, Volume, Key, At, End}
+use Rattle.capture_log_lines.specs.declared.log.line.Line.{Line}
+use Rattle.capture_log_lines.specs.declared.log.line.Line.TheVariants.{Title, Server, Signature, User as UserLine, Volume, Key, At, End}
 use Rattle.capture_log.specs.Taking.{IsLink, IsLinked}
-use Rattle.capture_log_lines.proofs.Values.{value-least}
+use Rattle.capture_log_lines.proofs.OfLog.Values.{value-least}
 
 -- something that may be read, if it names a connection that there may be
 abbrev IsGoodLine : Option Line → Type 0

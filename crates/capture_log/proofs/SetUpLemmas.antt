@@ -11,9 +11,9 @@ use Rattle.afp_serial.specs.Limits.{longest_server, longest_message, most_users,
 use Rattle.afp_serial.specs.declared.house_fault.HouseFault.{HouseFault}
 use Rattle.afp_serial.specs.declared.house_fault.HouseFault.TheVariants as faults
 use Rattle.afp_serial.specs.declared.user.User.{User}
-use Rattle.capture_log_lines.specs.declared.line.Line.{Line}
-use Rattle.capture_log_lines.specs.declared.line.Line.TheVariants.{Title, Server, Signature, User as UserLine, Volume, Key, At, End}
-use Rattle.capture_log_lines.specs.declared.line.What.{What}
+use Rattle.capture_log_lines.specs.declared.log.line.Line.{Line}
+use Rattle.capture_log_lines.specs.declared.log.line.Line.TheVariants.{Title, Server, Signature, User as UserLine, Volume, Key, At, End}
+use Rattle.capture_log_lines.specs.declared.log.line.What.{What}
 use Rattle.capture_log_server.specs.CaptureState.{part_after, user_behind}
 use Rattle.capture_log_server.specs.declared.part.Part.{Part}
 use Rattle.capture_log_server.specs.declared.part.Part.TheVariants as parts

@@ -2,7 +2,7 @@
 use Rattle.std.proofs.Common.{◌≡◌, ℕ, ◌+◌, ◌≤◌, ◌<◌, Bool, true, false, List, [], ◌++◌, length, take, refl, ap, ◌∙◌, subst, inl, inr, length-append, length-take, arith}
 use Rattle.std.specs.Prelude.{Option, option_map}
 use Rattle.afp_base.specs.Counts.{CountsOn}
-use Rattle.afp_outside.specs.Source.{SourceState, SourceGives, SourceEnds, SourceFails, LastReadWithin, ReadWithin}
+use Rattle.afp_outside.specs.ends.Source.{SourceState, SourceGives, SourceEnds, SourceFails, LastReadWithin, ReadWithin}
 use Rattle.capture_log.specs.lemma.Gathering.{ReaderState, Holds}
 use Rattle.capture_log.specs.Judged.{Judged, JudgedAt, AreTrue}
 use Rattle.capture_log.specs.Reading.{lines_in, IsJudged, Replays, ReplaysBy, IsReadWell, IsCompared, IsTheSame}

@@ -6,13 +6,13 @@ use Rattle.afp_base.specs.Counts.{counted}
 use Rattle.afp_serial.specs.Household.{Household}
 use Rattle.afp_serial.specs.StatusBlock.{status_block}
 use Rattle.afp_serial.specs.World.{fresh_world}
-use Rattle.capture_log_lines.specs.Lines.{line_in}
-use Rattle.capture_log_lines.specs.declared.line.Line.{Line}
-use Rattle.capture_log_lines.specs.declared.line.Line.TheVariants.{Title, Server, Signature, User as UserLine, Volume, Key, At, End}
-use Rattle.capture_log_lines.specs.declared.line.What.{What}
-use Rattle.capture_log_lines.specs.declared.line.What.TheVariants.{In, Quiet, Lost, Out}
+use Rattle.capture_log_lines.specs.log.Lines.{line_in}
+use Rattle.capture_log_lines.specs.declared.log.line.Line.{Line}
+use Rattle.capture_log_lines.specs.declared.log.line.Line.TheVariants.{Title, Server, Signature, User as UserLine, Volume, Key, At, End}
+use Rattle.capture_log_lines.specs.declared.log.line.What.{What}
+use Rattle.capture_log_lines.specs.declared.log.line.What.TheVariants.{In, Quiet, Lost, Out}
 use Rattle.afp_base.specs.declared.ids.LinkNumber.{LinkNumber}
-use Rattle.afp_server.specs.Wire.{open_link}
+use Rattle.afp_server.specs.link.Wire.{open_link}
 use Rattle.capture_log_server.specs.Connections.{Connection, unused}
 use Rattle.capture_log_server.specs.Counting.{refused_in}
 use Rattle.capture_log_server.specs.Running.{IsFreshRunning}

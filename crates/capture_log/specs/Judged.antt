@@ -1,8 +1,8 @@
 -- The judgement of a capture, over its lines (this profile).
 use Rattle.std.specs.Prelude.{◌≡◌, ◌≢◌, ◌⊎◌, ℕ, ◌+◌, Bool, true, List, ◌∷◌, ◌++◌, length, drop, Some}
-use Rattle.capture_log_lines.specs.Lines.{line_in}
-use Rattle.capture_log_lines.specs.declared.line.Line.TheVariants.{At}
-use Rattle.capture_log_lines.specs.declared.line.What.TheVariants.{Out}
+use Rattle.capture_log_lines.specs.log.Lines.{line_in}
+use Rattle.capture_log_lines.specs.declared.log.line.Line.TheVariants.{At}
+use Rattle.capture_log_lines.specs.declared.log.line.What.TheVariants.{Out}
 use Rattle.capture_log_server.specs.Connections.{difference, output}
 use Rattle.capture_log_server.specs.Counting.{AreCaptureCounts}
 use Rattle.capture_log_server.specs.declared.difference.Difference.{Difference}

@@ -2,8 +2,8 @@
 use Rattle.std.specs.Prelude.{◌≡◌, ℕ, ◌≤◌, ◌<◌, ◌==◌, nat_lt, not, ◌&&◌, ◌||◌, Bool, true, false, List, [], ◌∷◌, ◌++◌, length, option_map, if◌then◌else◌}
 use Rattle.std.specs.List.{slice_split}
 use Rattle.afp_base.specs.Counts.{CountsOn}
-use Rattle.afp_outside.specs.Source.{SourceState, LastReadWithin, ReadWithin}
-use Rattle.capture_log_lines.specs.Lines.{longest_line}
+use Rattle.afp_outside.specs.ends.Source.{SourceState, LastReadWithin, ReadWithin}
+use Rattle.capture_log_lines.specs.log.Lines.{longest_line}
 use Rattle.capture_log.specs.Judged.{Judged, IsGoodCapture, AreTrue}
 use Rattle.capture_log_server.specs.CaptureState.{CaptureState, Leads, begins}
 use Rattle.capture_log.specs.declared.replay_end.ReplayEnd.{ReplayEnd}

@@ -3,11 +3,11 @@ use Rattle.std.specs.Prelude.{◌≡◌, ◌≢◌, ℕ, ◌≤◌, nat_lt, not,
 use Rattle.afp_serial.specs.Household.{Household}
 use Rattle.afp_serial.specs.HouseFault.{is_name, is_bad_user, is_bad_volume}
 use Rattle.afp_serial.specs.Limits.{longest_server, most_users}
-use Rattle.capture_log_lines.specs.Lines.{last_link}
-use Rattle.capture_log_lines.specs.declared.line.Line.{Line}
-use Rattle.capture_log_lines.specs.declared.line.Line.TheVariants.{Title, Server, Signature, User as UserLine, Volume, Key, At, End}
-use Rattle.capture_log_lines.specs.declared.line.What.{What}
-use Rattle.capture_log_lines.specs.declared.line.What.TheVariants.{Out}
+use Rattle.capture_log_lines.specs.log.Lines.{last_link}
+use Rattle.capture_log_lines.specs.declared.log.line.Line.{Line}
+use Rattle.capture_log_lines.specs.declared.log.line.Line.TheVariants.{Title, Server, Signature, User as UserLine, Volume, Key, At, End}
+use Rattle.capture_log_lines.specs.declared.log.line.What.{What}
+use Rattle.capture_log_lines.specs.declared.log.line.What.TheVariants.{Out}
 use Rattle.capture_log_server.specs.Connections.{difference, output, unused}
 use Rattle.capture_log.specs.Judged.{Decides}
 use Rattle.capture_log.specs.SetUp.{IsSetUp}

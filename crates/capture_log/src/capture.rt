@@ -1,6 +1,6 @@
 //! A capture, as far as its lines were taken.
 ghost use Rattle.std.specs.Prelude.{◌≡◌, ◌<◌, ◌+◌, ℕ, suc, length, true, None, IfOk, option_map, is_some};
-ghost use Rattle.capture_log_lines.specs.declared.line.Line.{Line};
+ghost use Rattle.capture_log_lines.specs.declared.log.line.Line.{Line};
 ghost use Rattle.capture_log.specs.Judged.{DecidesEnd};
 ghost use Rattle.capture_log_server.specs.CaptureState.{CaptureState, is_refused_on, no_house};
 ghost use Rattle.capture_log.specs.Taking.{IsCapture, IsLink, IsLinked, IsServer, RunsFrom, Acts, TakesLine, TakesRawLine};

@@ -1,6 +1,6 @@
 //! A capture whose bytes come in pieces.
 ghost use Rattle.std.specs.Prelude.{◌≡◌, ◌++◌, ◌+◌, ◌∷◌, ◌<◌, nat_lt, [], List, ℕ, length, IfOk, IfSome, IfNone, true};
-ghost use Rattle.capture_log_lines.specs.Lines.{longest_line};
+ghost use Rattle.capture_log_lines.specs.log.Lines.{longest_line};
 ghost use Rattle.capture_log.specs.Reading.{lines_in};
 ghost use Rattle.capture_log.specs.Judged.{Judged};
 ghost use Rattle.capture_log.specs.lemma.Gathering.{Holds, Gathers, EndsLine, IsOneLine};

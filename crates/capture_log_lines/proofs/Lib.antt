@@ -1,2 +1,2 @@
-pub mod Places
-pub mod Values
+pub mod OfLog
+pub mod OfMade

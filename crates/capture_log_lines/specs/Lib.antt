@@ -1,2 +1,2 @@
-pub mod Fields
-pub mod Lines
+pub mod log
+pub mod made

@@ -1,14 +1,9 @@
 //! The lines of a capture: the forms that they have, and what each says.
+//! The lines of a made capture.
 #![tactic(auto)]
 
-mod event;
-mod hexadecimal;
-mod limits;
-mod line;
-mod number;
-mod read;
-mod words;
+mod log;
+mod made;
 
-pub use limits::{LAST_LINK, LONGEST_LINE};
-pub use line::{Line, What};
-pub use read::read_line;
+pub use log::{LAST_LINK, LONGEST_LINE, Line, What, read_line};
+pub use made::{has_room, lines_are_read, put_in_line, put_out_line};

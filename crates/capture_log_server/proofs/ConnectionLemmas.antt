@@ -15,12 +15,12 @@ use Rattle.afp_serial.proofs.Grows.{went-one}
 use Rattle.dsi_frame.specs.Deframe.{GivenOut}
 use Rattle.dsi_frame.specs.Frame.{Frame}
 use Rattle.dsi_frame.specs.Replies.{spelling_of}
-use Rattle.afp_server.specs.Script.{Script}
-use Rattle.afp_server.specs.Tally.{and_told}
-use Rattle.afp_server.specs.Wire.{WireState, open_link}
-use Rattle.afp_server.specs.declared.stage.Stage.{Stage}
-use Rattle.afp_server.specs.declared.tally.Tally.{Tally}
-use Rattle.afp_server.proofs.Traces.{spelling_of-append}
+use Rattle.afp_server.specs.link.Script.{Script}
+use Rattle.afp_server.specs.link.Tally.{and_told}
+use Rattle.afp_server.specs.link.Wire.{WireState, open_link}
+use Rattle.afp_server.specs.declared.link.stage.Stage.{Stage}
+use Rattle.afp_server.specs.declared.link.tally.Tally.{Tally}
+use Rattle.afp_server.proofs.OfLink.Traces.{spelling_of-append}
 use Rattle.capture_log_server.specs.Connections.{Connection, fed_with, difference, output}
 use Rattle.capture_log_server.specs.lemma.Moves.{Extends, FeedsConnection, IdlesConnection, LosesConnection, Compares, wire_or}
 use Rattle.capture_log_server.specs.CaptureState.{after_quiet, after_loss}

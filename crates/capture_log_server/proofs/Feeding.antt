@@ -5,16 +5,16 @@ use Rattle.afp_base.specs.declared.bytes.OutOfMemory.{OutOfMemory}
 use Rattle.afp_serial.specs.Shown.{Shown}
 use Rattle.dsi_frame.specs.Deframe.{GivenOut}
 use Rattle.dsi_frame.specs.Frame.{Frame}
-use Rattle.afp_server.specs.LinkRun.{Fills}
-use Rattle.afp_server.specs.Tally.{answered_after}
-use Rattle.afp_server.specs.Wire.{WireState, Handled}
-use Rattle.afp_server.specs.Wire.{feed_point, Feeds}
-use Rattle.afp_server.specs.declared.stage.FrameEnd.{FrameEnd}
-use Rattle.afp_server.specs.declared.stage.FrameEnd.TheVariants as ends
-use Rattle.afp_server.specs.declared.tally.Tally.{Tally}
-use Rattle.afp_server.specs.declared.wire.WireEnd.{WireEnd}
-use Rattle.afp_server.specs.declared.wire.WireEnd.TheVariants as wires
-use Rattle.afp_server.proofs.Traces.{fills-one}
+use Rattle.afp_server.specs.link.LinkRun.{Fills}
+use Rattle.afp_server.specs.link.Tally.{answered_after}
+use Rattle.afp_server.specs.link.Wire.{WireState, Handled}
+use Rattle.afp_server.specs.link.Wire.{feed_point, Feeds}
+use Rattle.afp_server.specs.declared.link.stage.FrameEnd.{FrameEnd}
+use Rattle.afp_server.specs.declared.link.stage.FrameEnd.TheVariants as ends
+use Rattle.afp_server.specs.declared.link.tally.Tally.{Tally}
+use Rattle.afp_server.specs.declared.link.wire.WireEnd.{WireEnd}
+use Rattle.afp_server.specs.declared.link.wire.WireEnd.TheVariants as wires
+use Rattle.afp_server.proofs.OfLink.Traces.{fills-one}
 use Rattle.capture_log_server.specs.Connections.{FramesEnd}
 use Rattle.capture_log_server.specs.lemma.States.{FeedsWire, is_end}
 use Rattle.capture_log_server.specs.Sole.{IsSole}

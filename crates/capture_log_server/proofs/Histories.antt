@@ -13,7 +13,7 @@ use Rattle.afp_serial.specs.declared.ask.Outcome.TheVariants.{Done, Fault}
 use Rattle.afp_serial.specs.declared.ask.Told.{Told}
 use Rattle.afp_serial.specs.declared.ask.Told.TheVariants.{Opened, Reply, Live, Done as ToldDone, Displaced, Memory}
 use Rattle.afp_serial.proofs.Grows.{faults-append, stand-append, take-all}
-use Rattle.afp_server.specs.Tally.{and_told, answered_after}
+use Rattle.afp_server.specs.link.Tally.{and_told, answered_after}
 use Rattle.capture_log_server.specs.Connections.{entries_of, told_of, AreServed}
 use Rattle.capture_log_server.specs.Sole.{places_below}
 

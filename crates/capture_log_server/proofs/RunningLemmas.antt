@@ -14,13 +14,13 @@ use Rattle.afp_serial.specs.declared.ask.Entry.{Entry}
 use Rattle.capture_log_server.specs.Connections.{Connection, fed_with, output, entries_of, AreServed}
 use Rattle.afp_base.specs.Counts.{counted, last_count}
 use Rattle.afp_serial.specs.Household.{Household}
-use Rattle.afp_server.specs.Tally.{replies_after, refused_after, refused_more}
-use Rattle.afp_server.specs.declared.tally.Tally.{Tally}
+use Rattle.afp_server.specs.link.Tally.{replies_after, refused_after, refused_more}
+use Rattle.afp_server.specs.declared.link.tally.Tally.{Tally}
 use Rattle.dsi_frame.specs.Frame.{Frame}
-use Rattle.capture_log_lines.specs.declared.line.What.TheVariants.{In, Quiet, Lost, Out}
+use Rattle.capture_log_lines.specs.declared.log.line.What.TheVariants.{In, Quiet, Lost, Out}
 use Rattle.afp_base.specs.declared.ids.LinkNumber.{LinkNumber}
 use Rattle.afp_serial.specs.declared.ask.Ask.TheVariants as asks
-use Rattle.afp_server.specs.Wire.{open_link}
+use Rattle.afp_server.specs.link.Wire.{open_link}
 use Rattle.capture_log_server.specs.declared.difference.Difference.{Difference}
 use Rattle.capture_log_server.specs.Counting.{refused_in}
 use Rattle.capture_log_server.specs.lemma.Moves.{Extends, FeedsConnection, IdlesConnection, LosesConnection}

@@ -16,15 +16,15 @@ use Rattle.afp_serial.specs.declared.ask.Entry.{Entry}
 use Rattle.afp_serial.specs.declared.ask.Told.{Told}
 use Rattle.afp_serial.specs.declared.ask.Told.TheVariants as told
 use Rattle.afp_serial.specs.declared.user.User.{User}
-use Rattle.afp_server.specs.Wire.{open_link}
-use Rattle.afp_server.specs.declared.stage.Stage.{Stage}
-use Rattle.afp_server.specs.declared.stage.Stage.TheVariants.{Closing}
+use Rattle.afp_server.specs.link.Wire.{open_link}
+use Rattle.afp_server.specs.declared.link.stage.Stage.{Stage}
+use Rattle.afp_server.specs.declared.link.stage.Stage.TheVariants.{Closing}
 use Rattle.dsi_frame.specs.Frame.{Frame}
-use Rattle.capture_log_lines.specs.Lines.{line_in}
-use Rattle.capture_log_lines.specs.declared.line.Line.{Line}
-use Rattle.capture_log_lines.specs.declared.line.Line.TheVariants.{Title, Server, Signature, User as UserLine, Volume, Key, At, End}
-use Rattle.capture_log_lines.specs.declared.line.What.{What}
-use Rattle.capture_log_lines.specs.declared.line.What.TheVariants.{In, Quiet, Lost, Out}
+use Rattle.capture_log_lines.specs.log.Lines.{line_in}
+use Rattle.capture_log_lines.specs.declared.log.line.Line.{Line}
+use Rattle.capture_log_lines.specs.declared.log.line.Line.TheVariants.{Title, Server, Signature, User as UserLine, Volume, Key, At, End}
+use Rattle.capture_log_lines.specs.declared.log.line.What.{What}
+use Rattle.capture_log_lines.specs.declared.log.line.What.TheVariants.{In, Quiet, Lost, Out}
 use Rattle.capture_log_server.specs.Connections.{Connection, TakesBytes, unused, fed_with, output, entries_of, AreServed, difference}
 use Rattle.capture_log_server.specs.declared.part.Part.{Part}
 use Rattle.capture_log_server.specs.declared.part.Part.TheVariants as parts

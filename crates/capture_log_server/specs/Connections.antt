@@ -9,12 +9,12 @@ use Rattle.afp_serial.specs.declared.ask.Told.{Told}
 use Rattle.dsi_frame.specs.Frame.{Frame}
 use Rattle.dsi_frame.specs.Stream.{Framed, Stopped}
 use Rattle.dsi_frame.specs.declared.frame.Reason.{Reason}
-use Rattle.afp_server.specs.LinkRun.{Fills}
+use Rattle.afp_server.specs.link.LinkRun.{Fills}
 use Rattle.dsi_frame.specs.Replies.{spelling_of}
-use Rattle.afp_server.specs.Script.{Script}
-use Rattle.afp_server.specs.declared.stage.FrameEnd.{FrameEnd}
-use Rattle.afp_server.specs.declared.stage.Stage.{Stage}
-use Rattle.afp_server.specs.declared.stage.Stage.TheVariants.{Fresh}
+use Rattle.afp_server.specs.link.Script.{Script}
+use Rattle.afp_server.specs.declared.link.stage.FrameEnd.{FrameEnd}
+use Rattle.afp_server.specs.declared.link.stage.Stage.{Stage}
+use Rattle.afp_server.specs.declared.link.stage.Stage.TheVariants.{Fresh}
 use Rattle.capture_log_server.specs.declared.difference.Difference.{Difference}
 
 -- A connection: the bytes fed to it, the frames of them that were handled, how far its link has come, whether bytes were fed to it at

@@ -2,10 +2,10 @@
 use Rattle.std.specs.Prelude.{◌≡◌, ℕ, List, [], length, drop, slice_get, Option, Some, None}
 use Rattle.afp_serial.specs.Household.{Household}
 use Rattle.afp_serial.specs.World.{fresh_world}
-use Rattle.capture_log_lines.specs.declared.line.What.{What}
-use Rattle.capture_log_lines.specs.declared.line.What.TheVariants.{Out}
+use Rattle.capture_log_lines.specs.declared.log.line.What.{What}
+use Rattle.capture_log_lines.specs.declared.log.line.What.TheVariants.{Out}
 use Rattle.capture_log_server.specs.Connections.{difference, output}
-use Rattle.capture_log_lines.specs.Lines.{last_link}
+use Rattle.capture_log_lines.specs.log.Lines.{last_link}
 use Rattle.capture_log_server.specs.CaptureState.{CaptureState, Happens}
 use Rattle.capture_log_server.specs.States.{ConnectionState, RunningState, IsRunning, unused_state}
 use Rattle.capture_log_server.specs.declared.difference.Difference.{Difference}

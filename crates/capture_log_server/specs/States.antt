@@ -6,11 +6,11 @@ use Rattle.afp_serial.specs.Household.{Household}
 use Rattle.afp_serial.specs.StatusBlock.{status_block}
 use Rattle.afp_serial.specs.World.{fresh_world}
 use Rattle.dsi_frame.specs.Deframe.{GivenOut}
-use Rattle.afp_server.specs.Wire.{WireState, open_link}
-use Rattle.afp_server.specs.declared.stage.Stage.TheVariants.{Fresh, Closing}
+use Rattle.afp_server.specs.link.Wire.{WireState, open_link}
+use Rattle.afp_server.specs.declared.link.stage.Stage.TheVariants.{Fresh, Closing}
 use Rattle.capture_log_server.specs.Connections.{Connection, output}
 use Rattle.capture_log_server.specs.Counting.{refused_in}
-use Rattle.capture_log_lines.specs.Lines.{last_link}
+use Rattle.capture_log_lines.specs.log.Lines.{last_link}
 use Rattle.capture_log_server.specs.CaptureState.{CaptureState}
 
 -- A connection: the wire that its bytes are fed to, and a bound of how many those were; whether it was used, takes no more bytes and was

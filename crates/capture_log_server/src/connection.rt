@@ -5,7 +5,7 @@ ghost use Rattle.afp_serial.specs.declared.ask.Told.{Told};
 ghost use Rattle.afp_serial.specs.Answered.{told_of};
 ghost use Rattle.capture_log_server.specs.lemma.Moves.{wire_or};
 ghost use Rattle.capture_log_server.specs.CaptureState.{after_quiet, after_loss};
-ghost use Rattle.afp_server.specs.declared.stage.Stage.{Stage};
+ghost use Rattle.afp_server.specs.declared.link.stage.Stage.{Stage};
 ghost use Rattle.dsi_frame.specs.Deframe.{GivenOut};
 ghost use Rattle.dsi_frame.specs.Frame.{Frame};
 ghost use Rattle.capture_log_server.specs.lemma.States.{FeedsWire, GoesOn, is_end};
@@ -104,7 +104,7 @@ impl Connection {
     ghost use Rattle.capture_log_server.specs.States.{IsConnection, unused_state};
     ghost use Rattle.capture_log_server.specs.lemma.Moves.{FeedsConnection, IdlesConnection, LosesConnection, Compares};
     ghost use Rattle.capture_log_server.specs.Connections.{Connection as Peer};
-    ghost use Rattle.afp_server.specs.Wire.{open_link};
+    ghost use Rattle.afp_server.specs.link.Wire.{open_link};
 
     /// One that no line has named.
     pub fn new(alloc: Global) -> Connection

@@ -1,6 +1,6 @@
 //! The server that a capture is replayed on, and its connections.
 ghost use Rattle.std.specs.Prelude.{◌≡◌, ◌<◌, ℕ, suc, false, Some, IfOk, OnOk, length, drop, option_map};
-ghost use Rattle.capture_log_lines.specs.declared.line.What.{What};
+ghost use Rattle.capture_log_lines.specs.declared.log.line.What.{What};
 ghost use Rattle.capture_log_server.specs.Running.{AreUnused, Happened};
 ghost use Rattle.capture_log_server.specs.Running.{HappensBy};
 ghost use Rattle.capture_log_server.specs.CaptureState.{CaptureState, is_refused_on};

@@ -1,2 +1,2 @@
-pub mod AddingLemmas
-pub mod MakingLemmas
+pub mod OfRequests
+pub mod OfMade

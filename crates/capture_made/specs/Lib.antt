@@ -1,3 +1,2 @@
-pub mod Made
-pub mod Making
-pub mod lemma
+pub mod requests
+pub mod made

@@ -1,10 +1,12 @@
+//! The requests of a made capture: three connections are opened, and steps are drawn by a number.
 //! Captures that are made by number: written to a sink, or counted.
 #![tactic(auto)]
 
-mod adding;
-mod counting;
-mod making;
-mod writing;
+mod made;
+mod requests;
 
-pub use counting::{Tallied, tally};
-pub use making::{MakeEnd, make};
+pub use made::{MakeEnd, Tallied, make, tally};
+pub use requests::{
+    Draws, MOST_STEPS, Request, Steps, call_of, draw_one, draw_step, login, open_session,
+    open_volume, open_volume_call,
+};

@@ -1,0 +1,5 @@
+pub mod OfParts
+pub mod OfCommands
+pub mod OfGet
+pub mod OfLs
+pub mod OfParcels

@@ -1,4 +1,3 @@
-pub mod Places
-pub mod Values
-pub mod Escapes
-pub mod Elements
+pub mod OfLines
+pub mod OfTexts
+pub mod OfCalls

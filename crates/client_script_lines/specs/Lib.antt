@@ -1,2 +1,3 @@
-pub mod Words
-pub mod Lines
+pub mod lines
+pub mod texts
+pub mod calls

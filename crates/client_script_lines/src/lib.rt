@@ -1,18 +1,21 @@
 //! Scripts of a client: the lines that they have.
+//! The texts that a client's script prints.
+//! The requests that the commands of a client's script ask.
 #![tactic(auto)]
 
-mod element;
-mod escape;
-mod hexadecimal;
-mod limits;
-mod line;
-mod number;
-mod read;
-mod words;
+mod calls;
+mod lines;
+mod texts;
 
-pub use escape::plain;
-pub use hexadecimal::spelt;
-pub use limits::{LONGEST_LINE, LONGEST_TEXT};
-pub use line::{LineFault, ScriptLine};
-pub use read::read_line;
-pub use words::{first_element, has_slash};
+pub use calls::{
+    add_comment, close_fork, copy_to, create_dir, create_file, delete, exchange, get_comment,
+    get_id, get_shown, list, lock, logout, move_to, open_desk, open_fork, open_resource_fork,
+    open_volume, read, resolve, set_file, unlock, write,
+};
+pub use lines::{
+    LONGEST_LINE, LONGEST_TEXT, LineFault, ScriptLine, first_element, has_slash, plain, read_line,
+    spelt,
+};
+pub use texts::{
+    error_text, got_text, numbered, packed_text, put_entry, put_number, put_shown, worded,
+};

@@ -1,2 +1,3 @@
-pub mod MountLemmas
-pub mod ValueLemmas
+pub mod OfLine
+pub mod OfAsker
+pub mod OfRun

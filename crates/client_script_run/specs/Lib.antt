@@ -1,2 +1,3 @@
-pub mod Values
-pub mod Run
+pub mod line
+pub mod asker
+pub mod run

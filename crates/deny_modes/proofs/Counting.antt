@@ -12,7 +12,7 @@ use Rattle.std.proofs.lemmas.Map.Views.{length-le_from_below}
 use Rattle.std.proofs.lemmas.Bool.{and_from, and_parts, not-true, or_parts}
 use mathlib.Core.Bool.{false≢true}
 use Rattle.afp_base.specs.DenyMode.{Access, Fork, is_one_fork, is_clash}
-use Rattle.sorted_map.specs.Entries.{at, exchanged, with_new_value}
+use Rattle.sorted_map.specs.map.Entries.{at, exchanged, with_new_value}
 use Rattle.deny_modes.specs.declared.opens.Opened.{Opened}
 use Rattle.deny_modes.specs.declared.opens.ForkTally.{ForkTally}
 use Rattle.afp_base.specs.Apart.{are_apart}

@@ -8,7 +8,7 @@ use Rattle.std.specs.declared.cmp.Ordering.TheVariants.{Less, Equal, Greater}
 use Rattle.std.proofs.lemmas.Bool.Decides.{nat_tests}
 use Rattle.afp_base.specs.DenyMode.{Fork, is_one_fork}
 use Rattle.afp_base.proofs.DefinitionLaws.{one_fork}
-use Rattle.sorted_map.specs.Entries.{exchanged}
+use Rattle.sorted_map.specs.map.Entries.{exchanged}
 use Rattle.deny_modes.specs.lemma.ForkOrder.{fork_cmp}
 use Rattle.deny_modes.specs.Opens.{in_exchange}
 use Rattle.afp_base.proofs.Forks.{one_fork-itself, same_fork}

@@ -1,6 +1,6 @@
 //! The opens of all sessions.
 ghost use Rattle.std.specs.Prelude.{◌≡◌, [], false, true, not, OnOk, OnErr, option_copied, unwrap_or, map};
-ghost use Rattle.sorted_map.specs.Entries.{at};
+ghost use Rattle.sorted_map.specs.map.Entries.{at};
 ghost use Rattle.afp_base.specs.Apart.{are_apart};
 ghost use Rattle.deny_modes.specs.lemma.ForkOrder.{fork_cmp};
 ghost use Rattle.deny_modes.specs.Opens.{has_reference, has_conflict, with_noted, without_reference, exchanged_opens, counters_of, in_exchange, are_in_conflict};

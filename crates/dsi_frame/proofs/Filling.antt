@@ -1,9 +1,9 @@
 -- A read into a buffer, behind the bytes that it holds.
 use Rattle.std.proofs.Common.{◌≡◌, ℕ, zero, suc, refl, [], ◌∷◌, ◌+◌, ◌≤◌, List, ◌++◌, length, take, drop, sym, ap, ◌∙◌, arith}
 use Rattle.std.proofs.lemmas.List.{drop-take, length-drop, length-take}
-use Rattle.afp_outside.specs.Link.{LinkState, Reads}
-use Rattle.afp_outside.specs.declared.link.ReadResult.{ReadResult}
-use Rattle.afp_outside.specs.declared.link.ReadResult.TheVariants as results
+use Rattle.afp_outside.specs.ends.Link.{LinkState, Reads}
+use Rattle.afp_outside.specs.declared.ends.link.ReadResult.{ReadResult}
+use Rattle.afp_outside.specs.declared.ends.link.ReadResult.TheVariants as results
 use Rattle.dsi_frame.specs.lemma.BufferFilling.{Fills, Holds}
 use Rattle.dsi_frame.proofs.BufferLemmas.{filled}
 

@@ -1,8 +1,8 @@
 -- What one read does to a deframer and a link (this profile).
 use Rattle.std.specs.Prelude.{◌≡◌, ℕ, ◌+◌, ◌≤◌, List, ◌++◌, length, take}
-use Rattle.afp_outside.specs.Link.{LinkState, ReadsPiece, ReadsQuiet, ReadsEnd, FailsToRead}
-use Rattle.afp_outside.specs.declared.link.ReadResult.{ReadResult}
-use Rattle.afp_outside.specs.declared.link.ReadResult.TheVariants as results
+use Rattle.afp_outside.specs.ends.Link.{LinkState, ReadsPiece, ReadsQuiet, ReadsEnd, FailsToRead}
+use Rattle.afp_outside.specs.declared.ends.link.ReadResult.{ReadResult}
+use Rattle.afp_outside.specs.declared.ends.link.ReadResult.TheVariants as results
 use Rattle.dsi_frame.specs.Buffered.{Buffered, buffer_length}
 
 -- The n bytes that came stand behind the rest.

@@ -1,6 +1,6 @@
 //! A deframer: the frames of a stream that comes in pieces.
 ghost use Rattle.std.specs.Prelude.{◌≡◌, ◌+◌, ◌-◌, ◌<◌, ◌≤◌, ◌^◌, ◌++◌, [], List, ℕ, length, take, drop, min, IfOk};
-ghost use Rattle.afp_outside.specs.Link.{Reads};
+ghost use Rattle.afp_outside.specs.ends.Link.{Reads};
 ghost use Rattle.dsi_frame.specs.Buffered.{Buffered, buffer_length};
 ghost use Rattle.dsi_frame.specs.Deframe.{IsHead};
 ghost use Rattle.dsi_frame.specs.Filling.{ReadsMore, TakesAtMost};

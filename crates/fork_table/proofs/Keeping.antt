@@ -13,7 +13,7 @@ use Rattle.std.proofs.lemmas.List.Folds.{list_all-map}
 use Rattle.afp_base.specs.DenyMode.{Fork, is_one_fork}
 use Rattle.afp_base.specs.Overlap.{Range}
 use Rattle.afp_base.specs.declared.ids.NodeId.{NodeId}
-use Rattle.sorted_map.specs.Entries.{at}
+use Rattle.sorted_map.specs.map.Entries.{at}
 use Rattle.deny_modes.specs.Opens.{Open, opens_on, has_reference, in_exchange, exchange_open, exchanged_opens, with_noted, without_reference}
 use Rattle.deny_modes.proofs.Forks.{both_cross}
 use Rattle.range_locks.specs.declared.fault.LockFault.{LockFault}

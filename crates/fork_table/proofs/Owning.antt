@@ -14,7 +14,7 @@ use Rattle.std.proofs.lemmas.Bool.Decides.{nat_tests}
 use Rattle.std.proofs.lemmas.Cmp.{nat_cmp_total, then_total}
 use Rattle.afp_base.specs.DenyMode.{Fork}
 use Rattle.afp_base.specs.declared.ids.ForkRef.{ForkRef}
-use Rattle.sorted_map.specs.Entries.{at}
+use Rattle.sorted_map.specs.map.Entries.{at}
 use Rattle.fork_table.specs.declared.open_fork.OpenFork.{OpenFork}
 use Rattle.fork_table.specs.declared.own.OwnRef.{OwnRef}
 use Rattle.fork_table.specs.ForkTable.{is_open_of_session, exchange_row}

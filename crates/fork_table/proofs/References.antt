@@ -13,7 +13,7 @@ use Rattle.std.specs.BTreeMap.{insert_entry, is_at}
 use Rattle.std.specs.Ordering.{nat_cmp, is_eq, match_ordering}
 use Rattle.std.specs.declared.cmp.Ordering.TheVariants.{Less, Equal, Greater}
 use Rattle.std.proofs.lemmas.Bool.Decides.{nat_tests}
-use Rattle.sorted_map.specs.Entries.{at, with_new_value}
+use Rattle.sorted_map.specs.map.Entries.{at, with_new_value}
 use Rattle.fork_table.specs.declared.open_fork.OpenFork.{OpenFork}
 use Rattle.fork_table.specs.ForkTable.{plain_open, plain_opens, is_open_reference, IsLowestFree, exchange_row}
 use Rattle.deny_modes.specs.Opens.{has_reference, in_exchange, with_noted, without_reference}

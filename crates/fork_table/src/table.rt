@@ -4,7 +4,7 @@ ghost use Rattle.std.specs.Ordering.{nat_cmp};
 ghost use Rattle.afp_base.specs.Limits.{most_opens};
 ghost use Rattle.deny_modes.specs.Opens.{has_conflict, is_fork_open};
 ghost use Rattle.range_locks.specs.Locks.{SetsLock, TakesLock, is_met_by_other_lock, without_holder, exchanged_locks};
-ghost use Rattle.sorted_map.specs.Entries.{at};
+ghost use Rattle.sorted_map.specs.map.Entries.{at};
 ghost use Rattle.fork_table.specs.lemma.Kept.{FindsOne, does_pass};
 ghost use Rattle.fork_table.specs.ForkTable.{Table, plain_opens, count_open, OpensInTable, own_open, forks_of, closing, is_open_of_session, is_of_volume, exchange_row, TableIsSound};
 

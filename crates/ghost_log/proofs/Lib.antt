@@ -1,0 +1,2 @@
+pub mod OfLog
+pub mod OfNotes

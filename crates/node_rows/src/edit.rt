@@ -16,7 +16,7 @@ use crate::node::{Marks, Node};
 use crate::search::{child_place, node_place, place_of};
 use afp_base::NodeId;
 use afp_names::Name;
-use recent_places::RecentPlaces;
+use sorted_map::RecentPlaces;
 
 /// Puts a node at the place of its id.
 pub(crate) fn put_node(nodes: &mut Vec<Node>, recent: &RecentPlaces, node: Node)

@@ -24,7 +24,7 @@ use crate::order::sort;
 use crate::search::{find_child, find_node, nth_child, search_node, sibling_places, siblings};
 use afp_base::{Bytes, NodeId, OutOfMemory};
 use afp_names::Name;
-use recent_places::RecentPlaces;
+use sorted_map::RecentPlaces;
 use std::alloc::Global;
 use std::marker::Model;
 

@@ -12,7 +12,7 @@ use crate::child::Child;
 use crate::node::Node;
 use afp_base::NodeId;
 use afp_names::LONGEST_NAME;
-use recent_places::RecentPlaces;
+use sorted_map::RecentPlaces;
 use std::cmp::Ordering;
 
 /// The place of the first node whose id is not below this one. The ends are looked at first: a new node comes behind all others, and the root is the first.

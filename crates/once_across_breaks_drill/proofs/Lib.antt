@@ -1,6 +1,3 @@
-pub mod Rows
-pub mod Asking
-pub mod Rejoining
-pub mod Changing
-pub mod Beginning
-pub mod Opening
+pub mod OfSteps
+pub mod OfRounds
+pub mod OfRun

@@ -1,7 +1,15 @@
-//! A client's calls over links that break are told what they are told where no link breaks.
+//! Drills: a client whose links break as numbers are drawn.
+//! Rounds between a client and a server that it is alone at: whole requests go to the server end of a link, and whole replies come back.
+//! Drills: a client whose links break as numbers are drawn, over a server in memory.
 #![tactic(auto)]
 
-mod breaks;
-pub mod laws;
+pub mod rounds;
+mod run;
+pub mod steps;
 
-pub use breaks::Break;
+pub use rounds::{
+    Answered, Caller, Line, Linked, Round, ask_call, call_round, come_back, lost_round, open_first,
+    told_round,
+};
+pub use run::{Drilled, drill};
+pub use steps::{DrillStep, DrillSteps, FIRST};

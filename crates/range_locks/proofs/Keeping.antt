@@ -22,7 +22,7 @@ use Rattle.afp_base.specs.Apart.{are_apart}
 use Rattle.deny_modes.proofs.Forks.{either_way, crosses, both_cross, found_crossed}
 use Rattle.deny_modes.specs.lemma.ForkOrder.{fork_cmp}
 use Rattle.deny_modes.specs.Opens.{in_exchange}
-use Rattle.sorted_map.specs.Entries.{at, exchanged}
+use Rattle.sorted_map.specs.map.Entries.{at, exchanged}
 use Rattle.range_locks.specs.declared.fault.LockFault.TheVariants.{Locked, Overlap, Full}
 use Rattle.range_locks.specs.declared.rows.LockRow.{LockRow}
 use Rattle.range_locks.specs.declared.rows.Seen.{Seen}

@@ -2,7 +2,7 @@
 ghost use Rattle.std.specs.Prelude.{◌≡◌, ◌≤◌, ◌==◌, not, filter, IsSome, OnOk, OnErr, length, unwrap_or, [], if◌then◌else◌};
 ghost use Rattle.std.specs.List.{insert};
 ghost use Rattle.afp_base.specs.DenyMode.{Fork, is_one_fork};
-ghost use Rattle.sorted_map.specs.Entries.{at};
+ghost use Rattle.sorted_map.specs.map.Entries.{at};
 ghost use Rattle.deny_modes.specs.lemma.ForkOrder.{fork_cmp};
 ghost use Rattle.range_locks.specs.lemma.Kept.{rows_at};
 ghost use Rattle.range_locks.specs.Locks.{AreInOrder, are_one_row};

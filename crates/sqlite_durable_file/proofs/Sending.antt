@@ -51,7 +51,7 @@ use Rattle.sqlite.specs.contracts.connection.Connection as connection
 use Rattle.sqlite.specs.contracts.connection.Connection.TheInside as inside
 use Rattle.sqlite_durable.specs.contracts.keeper.DurableKeeper as durable
 use Rattle.sqlite_durable.specs.contracts.keeper.DurableKeeper.TheInside as durable_inside
-use Rattle.ghost_log.specs.contracts.log.Log as ghost_list
+use Rattle.ghost_log.specs.contracts.log.log.Log as ghost_list
 use Rattle.std.specs.contracts.result.Result as result
 use Rattle.record_keeper.specs.contracts.keeper.KeeperFault as fault
 use Rattle.sqlite_std_file.specs.contracts.host.Host as host

@@ -4,7 +4,7 @@ use afp_core::{Core, CoreFault};
 use afp_serial::{House, HouseFault, User};
 use record_keeper::MemoryKeeper;
 use std::alloc::Global;
-use test_case_lines::{CaseFault, bytes_of, moment_of, owned, put_word, text_of, word_of};
+use test_lines::cases::{CaseFault, bytes_of, moment_of, owned, put_word, text_of, word_of};
 
 /// The server's signature.
 const SIGNATURE: [u8; 16] = [0, 1, 2, 3, 4, 5, 6, 7, 8, 9, 10, 11, 12, 13, 14, 15];

@@ -3,7 +3,7 @@ use crate::houses;
 use crate::server::{Server, ask, at, counts, new_server};
 use crate::whole::served;
 use std::alloc::Global;
-use test_case_lines::{CaseFault, TriesCases};
+use test_lines::{CaseFault, TriesCases};
 
 /// The words that begin a case.
 pub const KINDS: [&str; 9] = [

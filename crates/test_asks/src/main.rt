@@ -9,7 +9,7 @@ mod whole;
 use kinds::KINDS;
 use server::Server;
 use std::io;
-use test_case_lines::try_cases;
+use test_lines::try_cases;
 
 fn main(rt: HostRuntime) -> io::Result<()> {
     try_cases(&rt, &KINDS, Server::new(rt.alloc()))

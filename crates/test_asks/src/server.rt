@@ -5,7 +5,7 @@ use afp_core::{Core, ListTeller};
 use afp_serial::{Answered, Ask, House, Teller};
 use record_keeper::MemoryKeeper;
 use std::alloc::Global;
-use test_case_lines::{CaseFault, bytes_of, moment_of, owned, put_word, text_of};
+use test_lines::cases::{CaseFault, bytes_of, moment_of, owned, put_word, text_of};
 
 /// A server `Mac` with the volume `Share`, begun at 100, and the moment of what follows.
 #[derive(Drop)]

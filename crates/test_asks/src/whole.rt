@@ -1,13 +1,13 @@
 //! Whole links, each to a server of its own.
 ghost use Rattle.std.specs.Prelude.{◌≤◌, length, IfOk};
-ghost use Rattle.afp_outside.specs.Tape.{IsFreshTape};
+ghost use Rattle.afp_outside.specs.ends.Tape.{IsFreshTape};
 
 use crate::server::{Server, put_counts};
 use afp_base::{Bytes, Moment, NO_LIMIT, OutOfMemory};
 use afp_outside::{OpenGate, TapeLink};
 use afp_server::{LinkEnd, serve_link};
 use std::alloc::Global;
-use test_case_lines::{CaseFault, bytes_of, put_bad, word_of};
+use test_lines::cases::{CaseFault, bytes_of, put_bad, word_of};
 
 /// A link in memory through which the bytes come, in a first read of so many, and then as many as there is room for.
 fn tape_of(alloc: Global, made: Moment, bytes: &[u8], first: usize) -> Result<TapeLink, OutOfMemory>

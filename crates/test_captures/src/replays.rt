@@ -1,8 +1,8 @@
 //! Captures, each replayed on a server of its own.
 use afp_base::NO_LIMIT;
 use afp_outside::StdSource;
+use afptool_lib::new_memory_keepers;
 use capture_log::{ReplayEnd, replay};
-use capture_log_teller::new_memory_keepers;
 use std::fs::File;
 use std::io;
 

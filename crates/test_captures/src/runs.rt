@@ -1,8 +1,7 @@
 //! Runs of the tool over files.
 use afp_base::NO_LIMIT;
 use afp_outside::{StdSink, StdSource, TapeDialer};
-use afptool_lib::afptool;
-use capture_log_teller::memory_keepers;
+use afptool_lib::{afptool, memory_keepers};
 use std::fs::File;
 use std::io;
 use std::io::ErrorKind;

@@ -3,7 +3,7 @@ ghost use Rattle.std.specs.Prelude.{◌≡◌, ◌+◌, ◌≤◌, length, true}
 
 use afp_base::{Bytes, Code, Moment, Scan, Short};
 use std::alloc::Global;
-use test_case_lines::{CaseFault, bytes_of, owned, put_word, text_of, word_of};
+use test_lines::cases::{CaseFault, bytes_of, owned, put_word, text_of, word_of};
 
 /// `code NUMBER`: the number of the code that has this one, or `none`.
 pub fn code(alloc: Global, words: &[&str]) -> Result<String, CaseFault> {

@@ -1,7 +1,7 @@
 //! Fields with their names, as text.
 use afp_bitmap::{DirValues, FileValues, Values, VolumeValues};
 use std::alloc::Global;
-use test_case_lines::{CaseFault, put_word};
+use test_lines::{CaseFault, put_word};
 
 /// A space, the name and the number, where it is not 0.
 pub fn put_number(text: &mut String, name: &str, number: i64) -> Result<(), CaseFault> {

@@ -1,19 +1,19 @@
 //! Frames of the Data Stream Interface.
 ghost use Rattle.std.specs.Prelude.{◌≤◌, ◌<◌, ◌^◌, length};
 
-use afp_base::{Bytes, OutOfMemory};
+use afp_base::{Bytes, MAX_PAYLOAD, OutOfMemory};
 use dsi_frame::{
     Deframer, DsiCommand, Head, Header, OwnedFrame, Stream, StreamEnd, header_bytes, read_stream,
     write_frame,
 };
 use std::alloc::Global;
-use test_case_lines::{CaseFault, bytes_of, put_bad, put_word, text_of, word_of};
+use test_lines::cases::{CaseFault, bytes_of, put_bad, put_word, text_of, word_of};
 
 /// The most bytes of a stream of these cases.
 const MOST: usize = 1 << 20;
 
 /// The most bytes of a payload.
-const MOST_PAYLOAD: usize = 131_072;
+const MOST_PAYLOAD: usize = MAX_PAYLOAD as usize;
 
 fn put_end(text: &mut String, end: StreamEnd) -> Result<(), CaseFault> {
     match end {

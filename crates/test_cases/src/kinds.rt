@@ -1,7 +1,7 @@
 //! The kinds of cases.
 use crate::{base, frames, names, parameters, replies, requests, sessions};
 use std::alloc::Global;
-use test_case_lines::{CaseFault, TriesCases};
+use test_lines::{CaseFault, TriesCases};
 
 /// The words that begin a case.
 pub const KINDS: [&str; 22] = [

@@ -13,7 +13,7 @@ mod sessions;
 
 use kinds::{KINDS, Protocol};
 use std::io;
-use test_case_lines::try_cases;
+use test_lines::try_cases;
 
 fn main(rt: HostRuntime) -> io::Result<()> {
     try_cases(&rt, &KINDS, Ok(Protocol))

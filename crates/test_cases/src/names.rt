@@ -3,7 +3,7 @@ use afp_base::NodeId;
 use afp_names::mac_roman::{byte_of, char_of};
 use afp_names::{Name, NameFault, Path, PathFault, Step, long_name};
 use std::alloc::Global;
-use test_case_lines::{CaseFault, bytes_of, put_word, text_of, word_of};
+use test_lines::cases::{CaseFault, bytes_of, put_word, text_of, word_of};
 
 fn name_fault(fault: NameFault) -> &'static str {
     match fault {

@@ -6,7 +6,7 @@ use crate::fields::values_text;
 use afp_base::{Bytes, Code};
 use afp_bitmap::{DirBits, FileBits, ParamFault, Values, VolumeBits, put_params, read_params};
 use std::alloc::Global;
-use test_case_lines::{CaseFault, bits_of, bytes_of, text_of, word_of};
+use test_lines::cases::{CaseFault, bits_of, bytes_of, text_of, word_of};
 
 /// What is asked of a volume (kind 0), a file (1) or a directory (2).
 #[derive(Clone, Copy)]

@@ -5,7 +5,7 @@ use crate::fields::values_text;
 use afp_base::{Bytes, Code};
 use afp_replies::{ListEntry, Reply, ReplyFault, ReplyKind, read_reply, write_reply};
 use std::alloc::Global;
-use test_case_lines::{CaseFault, bits_of, bytes_of, text_of, word_of};
+use test_lines::cases::{CaseFault, bits_of, bytes_of, text_of, word_of};
 
 fn fault_of(alloc: Global, fault: ReplyFault) -> Result<String, CaseFault> {
     match fault {

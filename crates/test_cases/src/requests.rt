@@ -1,12 +1,12 @@
 //! Requests of the Apple Filing Protocol.
-ghost use Rattle.afp_calls_grammar.specs.Call.{IsSpellable};
+ghost use Rattle.afp_calls_grammar.specs.grammar.Call.{IsSpellable};
 
 use crate::fields::{put_bytes, put_numbers};
 use crate::names::steps_of;
 use afp_base::Bytes;
 use afp_calls::{Call, ReadFault, read_call, write_call};
 use std::alloc::Global;
-use test_case_lines::{CaseFault, bytes_of, put_word, text_of, word_of};
+use test_lines::cases::{CaseFault, bytes_of, put_word, text_of, word_of};
 
 fn fault_of(fault: ReadFault) -> &'static str {
     match fault {

@@ -2,7 +2,7 @@
 use afp_base::Moment;
 use dsi_session::{Attention, Due, Pulse, RequestIds, option_bytes, read_options};
 use std::alloc::Global;
-use test_case_lines::{CaseFault, bits_of, bytes_of, moment_of, text_of, word_of};
+use test_lines::cases::{CaseFault, bits_of, bytes_of, moment_of, text_of, word_of};
 
 /// `options BYTES`: the attention quantum, or where an option does not fit. `options`: those of the server.
 pub fn options(alloc: Global, words: &[&str]) -> Result<String, CaseFault> {

@@ -1,12 +1,12 @@
 //! What comes on a link.
 ghost use Rattle.std.specs.Prelude.{All, IfOk};
-ghost use Rattle.afp_outside.specs.Tape.{IsFreshTape};
+ghost use Rattle.afp_outside.specs.ends.Tape.{IsFreshTape};
 
 use crate::plan::{Plan, moment_of, numbers, sizes};
 use afp_base::{Bytes, Moment, OutOfMemory};
 use afp_outside::TapeLink;
 use std::alloc::Global;
-use test_lines::bytes_of;
+use test_lines::lines::bytes_of;
 
 /// A link: the moment when it was made, what its reads give and when, and its plan.
 #[derive(Drop)]

@@ -5,7 +5,7 @@ use crate::link::tapes;
 use crate::plan::{numbers, sizes};
 use afp_base::OutOfMemory;
 use afp_outside::{TapeDialer, TapeSink, TapeSource};
-use client_run::{Ran, run_client};
+use client_script_run::{Ran, run_client};
 use std::alloc::Global;
 
 /// What came of a run: what was printed, and how the client ended.

@@ -1,6 +1,6 @@
 //! What comes of lines.
 ghost use Rattle.std.specs.Prelude.{IsSome};
-ghost use Rattle.volume_plans.specs.Requests.{tree_call};
+ghost use Rattle.volume_edits.specs.plans.Requests.{tree_call};
 
 use crate::noting::NotingKeeper;
 use crate::spent::spent_keeper;
@@ -11,7 +11,7 @@ use deny_modes::Opens;
 use record_keeper::{Change, KeeperFault, MemoryKeeper};
 use std::alloc::Global;
 use test_lines::LineResult;
-use volume_keeper_commit::{ChangeFault, KeptVolume};
+use volume_keeper::{ChangeFault, KeptVolume};
 use volume_spec::limits::GUEST;
 use volume_tree::PlanFault;
 

@@ -3,7 +3,7 @@ use crate::frames::{behind, count, first_of};
 use afp_base::{Bytes, OutOfMemory};
 use std::alloc::Global;
 use std::io;
-use test_lines::{TakesLines, bytes_of};
+use test_lines::lines::{TakesLines, bytes_of};
 
 /// The frames of a run, and how many of them are its opening; and those by which a new link takes the session up.
 #[derive(Drop)]

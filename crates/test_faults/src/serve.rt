@@ -1,6 +1,6 @@
 //! Runs of a server over links in memory.
 ghost use Rattle.std.specs.Prelude.{IfOk};
-ghost use Rattle.afp_outside.specs.Tape.{IsFreshTape};
+ghost use Rattle.afp_outside.specs.ends.Tape.{IsFreshTape};
 
 use crate::frames::{count, sizes_of};
 use crate::house::moment;

@@ -6,7 +6,7 @@ use crate::line::{Kind, Line};
 use afp_base::{Bytes, MOST_FORK_BYTES, OutOfMemory, limits_are_told};
 use fork_bytes::{Fork, ForkPlan};
 use std::alloc::Global;
-use test_lines::bytes_of;
+use test_lines::lines::bytes_of;
 
 /// The plan of a write of bytes; of no bytes, where they would lie behind the largest fork.
 fn plan(alloc: Global, fork: &Fork, from: u64, piece: &[u8]) -> Result<ForkPlan, OutOfMemory>

@@ -2,7 +2,7 @@
 use crate::line::{Kind, Line};
 use afp_base::{Bytes, OutOfMemory};
 use std::alloc::Global;
-use test_lines::bytes_of;
+use test_lines::lines::bytes_of;
 use volume_keeper_records::{
     Appl, Comment, ForkBlock, Head, Icon, Node, Privileges, TableRow, VERSION, guest_privileges,
 };

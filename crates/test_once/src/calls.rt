@@ -3,7 +3,7 @@ use crate::server::moment;
 use afp_base::{Bytes, ForkRef, NodeId, OutOfMemory, VolumeId};
 use afp_calls_grammar::{Call, Piece};
 use afp_names::{Path, UTF8_NAMES};
-use capture_once::Happening;
+use once_across_breaks_live::Happening;
 use std::alloc::Global;
 
 /// The root directory, and the one volume.

@@ -4,7 +4,7 @@ use crate::server::{house, moment, teller};
 use afp_base::OutOfMemory;
 use afp_client::Login;
 use afp_core::ListTeller;
-use capture_once::{Happening, OnceRun, once};
+use once_across_breaks_live::{Happening, OnceRun, once};
 use record_keeper::MemoryKeeper;
 use std::alloc::Global;
 

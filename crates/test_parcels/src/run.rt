@@ -2,7 +2,7 @@
 use afp_base::{Bytes, OutOfMemory};
 use apple_double::{Parcel, ParcelFault, Shape, parcel_size, read_parcel, write_parcel};
 use std::alloc::Global;
-use test_lines::{AnswersLines, LineResult, bytes_of, word_at};
+use test_lines::lines::{AnswersLines, LineResult, bytes_of, word_at};
 
 /// Lines of bytes that are read as a parcel.
 #[derive(Drop)]

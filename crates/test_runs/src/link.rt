@@ -1,6 +1,6 @@
 //! Runs of one link.
 ghost use Rattle.std.specs.Prelude.{IfOk};
-ghost use Rattle.afp_outside.specs.Tape.{IsFreshTape};
+ghost use Rattle.afp_outside.specs.ends.Tape.{IsFreshTape};
 
 use crate::gate::CountingGate;
 use crate::numbers::{digits_of, moment_of, moments_of, numbers_of, owned, sizes_of};

@@ -1,7 +1,7 @@
 //! Lists of numbers.
 use afp_base::{Bytes, Moment, OutOfMemory};
 use std::alloc::Global;
-use test_lines::bytes_of;
+use test_lines::lines::bytes_of;
 
 /// The number of a word, 0 where it spells none.
 pub fn number_of(word: &str) -> u64 {

@@ -1,17 +1,17 @@
 //! Runs of the whole server.
 ghost use Rattle.std.specs.Prelude.{◌≡◌, ◌<◌, false, All, IfOk};
-ghost use Rattle.afp_outside.specs.Tape.{IsFreshTape};
+ghost use Rattle.afp_outside.specs.ends.Tape.{IsFreshTape};
 
 use crate::numbers::{digits_of, moment_of, number_of, numbers_of, owned, sizes_of};
 use afp_base::OutOfMemory;
 use afp_outside::{OpenGate, TapeClock, TapeLink, TapeListener, TapeSink};
-use afpd_lib::server::{Finish, afpd};
-use afpd_lib::setup::{VolumePlace, setup};
+use afpd_lib::server::server::{Finish, afpd};
+use afpd_lib::server::setup::{VolumePlace, setup};
 use record_keeper::{Keeper, MemoryKeeper};
 use std::alloc::Global;
 use std::sync::Wait;
 use std::thread::Threads;
-use test_lines::bytes_of;
+use test_lines::lines::bytes_of;
 
 /// A link that waits: the most bytes of each read, and what comes.
 #[derive(Drop)]

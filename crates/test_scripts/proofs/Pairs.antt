@@ -1,8 +1,8 @@
 -- One call more, with its answer.
 use Rattle.std.proofs.Common.{◌≡◌, List, [], ◌∷◌, ◌++◌, length, refl, ap, arith}
-use Rattle.afp_calls_grammar.specs.declared.call.Call.{Call}
-use Rattle.client_script_parts.specs.declared.asker.Answer.{Answer}
-use Rattle.client_script_parts.specs.Parts.{Exchange}
+use Rattle.afp_calls_grammar.specs.declared.grammar.call.Call.{Call}
+use Rattle.client_script_commands.specs.declared.parts.asker.Answer.{Answer}
+use Rattle.client_script_commands.specs.parts.Parts.{Exchange}
 use Rattle.test_scripts.specs.Exchanged.{zipped}
 
 zipped_onto : (calls : List Call) (answers : List Answer) (call : Call) (answer : Answer) → length calls ≡ length answers

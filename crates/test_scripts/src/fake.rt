@@ -1,6 +1,6 @@
 //! Whoever asks, over answers that are given beforehand.
 ghost use Rattle.std.specs.Prelude.{◌≡◌, [], ◌∷◌, ◌++◌, length};
-ghost use Rattle.afp_calls_grammar.specs.Call.{IsSpellable};
+ghost use Rattle.afp_calls_grammar.specs.grammar.Call.{IsSpellable};
 ghost use Rattle.test_scripts.specs.Exchanged.{zipped};
 
 use crate::asked::kind_of;
@@ -9,9 +9,8 @@ use afp_base::{Bytes, Code, OutOfMemory};
 use afp_calls::write_call;
 use afp_calls_grammar::Call;
 use afp_replies::{Reply, ReplyFault, read_reply};
-use client_script_parts::{Answer, Asker};
-use ghost_log::Log;
-use ghost_notes::Notes;
+use client_script_commands::{Answer, Asker};
+use ghost_log::{Log, Notes};
 use std::alloc::Global;
 
 /// Exchanges in the order in which they came, which only proofs read.

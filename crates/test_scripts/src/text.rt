@@ -1,7 +1,7 @@
 //! Bytes and numbers as text.
 use afp_base::{Bytes, Code, OutOfMemory};
 use std::alloc::Global;
-use test_lines::bytes_of;
+use test_lines::lines::bytes_of;
 
 /// The bytes that hexadecimal digits spell; none for `-`.
 pub fn owned(alloc: Global, digits: &str) -> Result<Bytes, OutOfMemory> {

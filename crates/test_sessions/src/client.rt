@@ -1,6 +1,6 @@
 //! A client's end of a session.
 ghost use Rattle.std.specs.Prelude.{IfOk, IfSome};
-ghost use Rattle.afp_client.specs.Opening.{FitsLogin};
+ghost use Rattle.afp_client.specs.session.Opening.{FitsLogin};
 
 use crate::text::{digits_of, owned, short_of};
 use afp_base::{Bytes, OutOfMemory, VolumeId};

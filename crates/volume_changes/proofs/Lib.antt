@@ -1,11 +1,2 @@
-pub mod LookUps
-pub mod Exact
-pub mod Found
-pub mod Segments
-pub mod EditsWithin
-pub mod Covering
-pub mod Changing
-pub mod Calling
-pub mod Gathering
-pub mod Standing
-pub mod TouchedRising
+pub mod OfRecords
+pub mod OfSteps

@@ -1,7 +1,2 @@
-pub mod ValueChange
-pub mod Differences
-pub mod Touched
-pub mod TouchedOrder
-pub mod Values
-pub mod EditTouches
-pub mod Laws
+pub mod records
+pub mod steps

@@ -1,11 +1,9 @@
 //! The records that differ between a volume as it is and as it will be.
+//! What a plan of a volume changes in its records.
 #![tactic(auto)]
 
-mod kinds;
-pub mod laws;
-mod noting;
-mod touched;
-mod transition;
+pub mod records;
+mod steps;
 
-pub use touched::{ForkPlace, Mapping, Touched};
-pub use transition::{Transition, ValueChange, changes};
+pub use records::{ForkPlace, Mapping, Touched, Transition, ValueChange, changes};
+pub use steps::{Step, plan_changes};

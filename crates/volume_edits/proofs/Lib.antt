@@ -1,7 +1,2 @@
-pub mod Behind
-pub mod BlocksBehind
-pub mod ByNode
-pub mod DesktopBehind
-pub mod HeadAndComments
-pub mod Left
-pub mod Seen
+pub mod OfEdits
+pub mod OfPlans

@@ -1,5 +1,2 @@
-pub mod After
-pub mod Changed
-pub mod Planned
-pub mod Whole
-pub mod lemma
+pub mod edits
+pub mod plans

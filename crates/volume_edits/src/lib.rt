@@ -1,27 +1,15 @@
 //! A volume with its desktop database, and edits of it: one after the other they are what a call does.
+//! The plans of calls that change a volume: why a call is refused, or its edits, all that carrying them out takes memory for included.
 #![tactic(auto)]
 
-mod after;
-mod appl_after;
-mod apply;
-mod before;
-mod blocks_after;
-mod carry_out;
-mod changed;
-mod comment_after;
-mod edit;
-mod fork_after;
-mod head_after;
-mod icon_after;
-mod kinds;
-pub mod laws;
-mod plan;
-mod whole;
-mod whole_node;
+pub mod edits;
+mod plans;
 
-pub use after::NodeStep;
-pub use edit::Edit;
-pub use fork_after::ForkAfter;
-pub use plan::Plan;
-pub use whole::WholeVolume;
-pub use whole_node::WholeNode;
+pub use edits::{Edit, ForkAfter, NodeStep, Plan, WholeNode, WholeVolume};
+pub use plans::{
+    CopiedFile, copied_file, plan_add_appl, plan_add_comment, plan_add_icon, plan_copy_file,
+    plan_create_dir, plan_create_file, plan_create_id, plan_delete, plan_delete_id,
+    plan_exchange_files, plan_move_and_rename, plan_remove_appl, plan_remove_comment, plan_rename,
+    plan_set_dir_parms, plan_set_file_dir_parms, plan_set_file_parms, plan_set_vol_parms,
+    plan_tree_call,
+};

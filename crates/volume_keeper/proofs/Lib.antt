@@ -1,6 +1,3 @@
-pub mod SoundRows
-pub mod Versions
-pub mod Loads
-pub mod Zeroed
-pub mod DesktopAgain
-pub mod Filling
+pub mod OfLoading
+pub mod OfKept
+pub mod OfReplies

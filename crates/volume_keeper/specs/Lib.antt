@@ -1,2 +1,3 @@
-pub mod Loading
-pub mod lemma
+pub mod loading
+pub mod kept
+pub mod replies

@@ -23,7 +23,7 @@ pub use rows::{
     Appl, BadRecord, Comment, ForkBlock, Head, Icon, Node, Privileges, Reason, TableRow,
 };
 pub use write::{
-    appl_key, appl_record, block_key, block_record, comment_key, comment_record, head_bytes,
-    head_key, head_record, icon_key, icon_record, is_node_value, node_key, node_record, node_value,
-    record_of,
+    TAG_SIZE, appl_key, appl_record, block_key, block_record, comment_key, comment_record,
+    head_bytes, head_key, head_record, icon_key, icon_record, is_node_value, node_key, node_record,
+    node_value, record_of,
 };

@@ -13,7 +13,7 @@ use std::alloc::Global;
 const BEFORE_NAME: usize = 79;
 
 /// How many bytes a tag has.
-const TAG: usize = 4;
+pub const TAG_SIZE: usize = 4;
 
 /// This byte, with room for so many in all.
 fn begun(alloc: Global, first: u8, size: usize) -> Result<Bytes, OutOfMemory>
@@ -268,7 +268,7 @@ pub fn icon_record(alloc: Global, icon: &Icon) -> Result<Record, OutOfMemory>
     key.extend(icon.kind.as_slice())?;
     key.push_u8(icon.icon_kind)?;
     let bits = icon.bits.as_slice();
-    let mut value = Bytes::with_room(alloc, TAG.saturating_add(bits.len()))?;
+    let mut value = Bytes::with_room(alloc, TAG_SIZE.saturating_add(bits.len()))?;
     value.push_u32(icon.tag)?;
     value.extend(bits)?;
     let key = RecordKey::new(key);
@@ -281,7 +281,7 @@ pub fn appl_record(alloc: Global, appl: &Appl) -> Result<Record, OutOfMemory>
     ensures { IfOk result (λ r. r ≡ the_appl appl.now) }
 {
     let key = appl_key(alloc, &appl.creator, appl.node)?;
-    let mut value = Bytes::with_room(alloc, TAG)?;
+    let mut value = Bytes::with_room(alloc, TAG_SIZE)?;
     value.push_u32(appl.tag)?;
     Ok(Record { key, value })
 }

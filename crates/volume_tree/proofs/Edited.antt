@@ -9,7 +9,7 @@ use Rattle.afp_base.proofs.ListFacts.{all-snoc, all-weaker, filter-all, none-any
 use Rattle.afp_base.specs.declared.ids.NodeId.{NodeId}
 use Rattle.afp_names.specs.Name.{name_key}
 use Rattle.node_rows.specs.Kept.{RowsValue}
-use Rattle.sorted_map.specs.Entries.{at}
+use Rattle.sorted_map.specs.map.Entries.{at}
 use Rattle.volume_spec.proofs.Formed.{formed-parts}
 use Rattle.volume_spec.proofs.Trees.{drawn, tree-parts}
 use Rattle.volume_spec.specs.Edits.{at_place, bare, filed_as, is_taken, named, renamed, with_changed, with_moved, with_row, without, without_node}

@@ -8,7 +8,7 @@ use Rattle.afp_base.specs.declared.ids.NodeId.{NodeId}
 use Rattle.afp_base.specs.Limits.{block_size, most_fork_bytes}
 use Rattle.fork_bytes.specs.Plan.{ForkPlanState as ForkPlanState, IsForkPlan as IsForkPlan}
 use Rattle.node_rows.specs.Kept.{RowsValue}
-use Rattle.sorted_map.specs.Entries.{at}
+use Rattle.sorted_map.specs.map.Entries.{at}
 use Rattle.volume_spec.proofs.Formed.{limit-parts}
 use Rattle.volume_spec.proofs.SoundEdits.{changed-same}
 use Rattle.volume_spec.specs.SoundVolume.{fork_bytes}

@@ -10,7 +10,7 @@ use Rattle.afp_base.specs.Limits.{most_fork_bytes}
 use Rattle.afp_base.specs.declared.ids.NodeId.{NodeId}
 use Rattle.afp_base.proofs.ListFacts.{all-weaker, apart-map, apart-weaker, none-all}
 use Rattle.node_rows.specs.Kept.{RowsValue}
-use Rattle.sorted_map.specs.Entries.{at}
+use Rattle.sorted_map.specs.map.Entries.{at}
 use Rattle.volume_spec.proofs.ForkEffects.{room-left}
 use Rattle.volume_spec.proofs.Places.{unchanged}
 use Rattle.volume_spec.proofs.SoundEdits.{changed-same}

@@ -4,7 +4,7 @@ use Rattle.std.specs.Prelude.{pos, option_map, MatchOption, is_some, slice_get, 
 use Rattle.std.specs.List.{list_any, list_all, filter}
 use Rattle.std.specs.Ordering.{nat_cmp}
 use Rattle.afp_base.specs.declared.ids.NodeId.{NodeId}
-use Rattle.sorted_map.specs.Entries.{at}
+use Rattle.sorted_map.specs.map.Entries.{at}
 use Rattle.node_rows.specs.Kept.{RowsValue}
 use Rattle.volume_spec.proofs.Fresh.{fresh-sound}
 use Rattle.volume_spec.proofs.SoundEdits.{sound-changed}

@@ -6,7 +6,7 @@ use Rattle.std.specs.Ordering.{nat_cmp}
 use Rattle.std.proofs.lemmas.Bool.{and_parts, cases_Bool, cond_both, cond-true, cond-false, eqb-true, ne_eqb, not-true}
 use Rattle.std.proofs.lemmas.List.Sums.{sum_by-cons}
 use Rattle.afp_base.specs.declared.ids.NodeId.{NodeId}
-use Rattle.sorted_map.specs.Entries.{at}
+use Rattle.sorted_map.specs.map.Entries.{at}
 use Rattle.volume_spec.proofs.Formed.{formed-parts}
 use Rattle.volume_spec.proofs.Places.{nothing-gone}
 use Rattle.volume_spec.proofs.Trees.{drawn, tree-parts}

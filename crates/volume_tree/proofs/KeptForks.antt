@@ -4,7 +4,7 @@ use Rattle.std.specs.Prelude.{option_map, is_some, if◌then◌else◌}
 use Rattle.std.specs.List.{list_all}
 use Rattle.std.specs.Ordering.{nat_cmp}
 use Rattle.std.proofs.lemmas.Bool.{eqb-true, not-true}
-use Rattle.sorted_map.specs.Entries.{at}
+use Rattle.sorted_map.specs.map.Entries.{at}
 use Rattle.volume_spec.specs.Edits.{bare}
 use Rattle.volume_spec.specs.ForkEffect.{fork_of}
 use Rattle.afp_base.specs.Apart.{are_apart}

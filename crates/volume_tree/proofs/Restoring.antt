@@ -17,7 +17,7 @@ use Rattle.volume_spec.proofs.Formed.{formed-parts, limit-parts}
 use Rattle.volume_spec.proofs.Orders.{order-parts}
 use Rattle.volume_spec.proofs.Trees.{drawn, tree-parts}
 use Rattle.node_rows.specs.Kept.{RowsValue}
-use Rattle.sorted_map.specs.Entries.{at}
+use Rattle.sorted_map.specs.map.Entries.{at}
 use Rattle.volume_tree.specs.Kept.{Forks, data_of, resource_of, rows_of, state_of}
 use Rattle.volume_tree.specs.lemma.Kept.{IsKeptVolume, has_forks}
 use Rattle.volume_tree.specs.Restored.{IsRestorable, restored, loaded_row}

@@ -9,7 +9,7 @@ use Rattle.std.proofs.lemmas.Cmp.{nat_cmp_total}
 use Rattle.std.proofs.lemmas.Bool.{or_right, cases_Bool, cond_both, cond-true, cond-false, eqb-true, ne_eqb}
 use Rattle.afp_base.specs.declared.ids.NodeId.{NodeId}
 use Rattle.node_rows.specs.Kept.{RowsValue}
-use Rattle.sorted_map.specs.Entries.{at}
+use Rattle.sorted_map.specs.map.Entries.{at}
 use Rattle.volume_spec.proofs.ForkEffects.{bytes-written, written-sound}
 use Rattle.volume_spec.proofs.Walks.{find-there}
 use Rattle.volume_spec.specs.Edits.{with_changed, change_at, modified_at}

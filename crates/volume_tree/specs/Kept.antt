@@ -1,7 +1,7 @@
 -- What is kept of a volume's tree (this profile).
 use Rattle.std.specs.Prelude.{ℕ, if◌then◌else◌, List, [], map, Option, Some, None, is_some}
 use Rattle.std.specs.Ordering.{nat_cmp}
-use Rattle.sorted_map.specs.Entries.{at}
+use Rattle.sorted_map.specs.map.Entries.{at}
 use Rattle.node_rows.specs.Kept.{RowsValue}
 use Rattle.volume_spec.specs.VolumeState.{Row, VolumeState}
 use Rattle.volume_tree.specs.declared.forks.FileForks.{FileForks}

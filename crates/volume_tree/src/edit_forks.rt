@@ -1,7 +1,7 @@
 //! Edits of forks. None of these takes memory.
 ghost use Rattle.std.specs.Prelude.{◌≡◌, ◌==◌, ◌≤◌, ℕ, pos, true, false, Some, length, is_some, if◌then◌else◌};
 ghost use Rattle.std.specs.Ordering.{nat_cmp};
-ghost use Rattle.sorted_map.specs.Entries.{at};
+ghost use Rattle.sorted_map.specs.map.Entries.{at};
 ghost use Rattle.volume_spec.specs.EditLaws.{MayExchange, MayWrite};
 ghost use Rattle.volume_spec.specs.Edits.{exchanged_at, with_changed};
 ghost use Rattle.volume_spec.specs.ForkEffect.{written};

@@ -4,7 +4,7 @@ ghost use Rattle.std.specs.Ordering.{nat_cmp};
 ghost use Rattle.afp_base.specs.ForkBytes.{splice};
 ghost use Rattle.afp_base.specs.Limits.{most_fork_bytes};
 ghost use Rattle.fork_bytes.specs.Plan.{IsForkPlan as IsForkPlan};
-ghost use Rattle.sorted_map.specs.Entries.{at};
+ghost use Rattle.sorted_map.specs.map.Entries.{at};
 ghost use Rattle.volume_tree.specs.Filled.{FitsFork, filled};
 ghost use Rattle.volume_tree.specs.lemma.ForkEffect.{kept_fork};
 

@@ -2,7 +2,7 @@
 ghost use Rattle.std.specs.Prelude.{◌≡◌, ◌==◌, ℕ, List, [], true, false, None, if◌then◌else◌, is_some, OnOk};
 ghost use Rattle.std.specs.Ordering.{nat_cmp};
 ghost use Rattle.fork_bytes.specs.Plan.{IsForkPlan as IsForkPlan};
-ghost use Rattle.sorted_map.specs.Entries.{at};
+ghost use Rattle.sorted_map.specs.map.Entries.{at};
 ghost use Rattle.volume_tree.specs.lemma.Kept.{IsShownAs};
 
 use afp_base::OutOfMemory;

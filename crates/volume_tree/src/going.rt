@@ -1,7 +1,7 @@
 //! A node that goes, with its forks. None of these takes memory.
 ghost use Rattle.std.specs.Prelude.{◌≡◌, ◌≤◌, ◌<◌, ◌^◌, ℕ};
 ghost use Rattle.std.specs.Ordering.{nat_cmp};
-ghost use Rattle.sorted_map.specs.Entries.{at};
+ghost use Rattle.sorted_map.specs.map.Entries.{at};
 ghost use Rattle.volume_tree.specs.lemma.Kept.{at_gone, bytes_of, gone_rows};
 
 use crate::forks::{FileForks, forget};

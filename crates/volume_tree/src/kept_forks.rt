@@ -2,7 +2,7 @@
 ghost use Rattle.std.specs.Prelude.{◌≡◌, ◌==◌, ℕ, List, true, false, Some, is_some, if◌then◌else◌};
 ghost use Rattle.std.specs.Ordering.{nat_cmp};
 ghost use Rattle.fork_bytes.specs.Plan.{IsForkPlan as IsForkPlan};
-ghost use Rattle.sorted_map.specs.Entries.{at, IsAt};
+ghost use Rattle.sorted_map.specs.map.Entries.{at, IsAt};
 ghost use Rattle.volume_tree.specs.lemma.ForkEffect.{IsChanged, kept_fork};
 
 use crate::forks::FileForks;

@@ -3,7 +3,7 @@ ghost use Rattle.std.specs.Prelude.{◌≡◌, ◌≤◌, ℕ, true, map, replic
 ghost use Rattle.std.specs.List.{list_all};
 ghost use Rattle.std.specs.Ordering.{nat_cmp};
 ghost use Rattle.afp_base.specs.Limits.{most_fork_bytes};
-ghost use Rattle.sorted_map.specs.Entries.{at};
+ghost use Rattle.sorted_map.specs.map.Entries.{at};
 ghost use Rattle.volume_spec.specs.Shared.{name_of};
 ghost use Rattle.volume_spec.specs.SoundVolume.{has_node};
 ghost use Rattle.volume_spec.specs.VolumeState.{root_id};

@@ -1,12 +1,12 @@
 -- What the groups of requests answer together, for the proofs; no public contract cites it.
 use Rattle.std.specs.Prelude.{◌≡◌, ℕ, true, false, List, Option, Some, None, Result, Ok, Err}
-use Rattle.afp_calls_grammar.specs.declared.call.Call.{Call}
-use Rattle.afp_calls_grammar.specs.declared.call.ReadFault.{ReadFault}
-use Rattle.afp_calls_grammar.specs.declared.call.ReadFault.TheVariants as faults
-use Rattle.afp_calls_grammar.specs.Reading.{Reader, has_reader, read_by}
-use Rattle.afp_calls_grammar.specs.Readers.{session_readers, volume_readers, directory_readers, file_readers, fork_readers, desktop_readers}
-use Rattle.afp_calls_grammar.specs.Spelt.{readers}
-use Rattle.afp_calls_fields.specs.Input.{Input, bytes_left}
+use Rattle.afp_calls_grammar.specs.declared.grammar.call.Call.{Call}
+use Rattle.afp_calls_grammar.specs.declared.grammar.call.ReadFault.{ReadFault}
+use Rattle.afp_calls_grammar.specs.declared.grammar.call.ReadFault.TheVariants as faults
+use Rattle.afp_calls_grammar.specs.grammar.Reading.{Reader, has_reader, read_by}
+use Rattle.afp_calls_grammar.specs.grammar.Readers.{session_readers, volume_readers, directory_readers, file_readers, fork_readers, desktop_readers}
+use Rattle.afp_calls_grammar.specs.grammar.Spelt.{readers}
+use Rattle.afp_calls_grammar.specs.fields.Input.{Input, bytes_left}
 use Rattle.afp_calls.specs.declared.group.Group.{Group}
 use Rattle.afp_calls.specs.declared.group.Group.TheVariants as groups
 

@@ -1,7 +1,7 @@
 -- What a request comes to before its call's row (this profile).
 use Rattle.std.specs.Prelude.{◌≡◌, ℕ, Bool, List, Option, Result, Ok, Err, is_some}
 use Rattle.afp_base.specs.Cached.{Request}
-use Rattle.afp_calls_grammar.specs.declared.call.Call.{Call}
+use Rattle.afp_calls_grammar.specs.declared.grammar.call.Call.{Call}
 use Rattle.afp_core_dispatch.specs.declared.spelling.Stop.{Stop}
 use Rattle.afp_core_dispatch.specs.declared.spelling.Stop.TheVariants.{Refused, Memory}
 use Rattle.afp_serial.specs.World.{plain, World, Session}

@@ -1,7 +1,7 @@
 -- What the code and the proofs go by beside Holding; no public contract cites it.
 use Rattle.std.specs.Prelude.{◌≡◌, ℕ, Bool, List, [], ◌∷◌, Option, IfSome}
 use Rattle.record_keeper.specs.Records.{Records}
-use Rattle.volume_keeper_commit.specs.Kept.{KeptState}
+use Rattle.volume_keeper.specs.kept.Kept.{KeptState}
 use Rattle.volume_keeper_records.specs.Image.{kept_image}
 
 -- the keeper stands beside this volume

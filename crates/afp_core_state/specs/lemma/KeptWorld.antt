@@ -4,7 +4,7 @@ use Rattle.afp_core_state.specs.Forks.{Forks}
 use Rattle.std.specs.Prelude.{ℕ, List, Option}
 use Rattle.afp_core_state.specs.KeptWorld.{KeptWorld, kept_world, volumes_of, with_token_key, world_of}
 use Rattle.afp_serial.specs.Household.{Household}
-use Rattle.volume_keeper_commit.specs.Kept.{KeptState}
+use Rattle.volume_keeper.specs.kept.Kept.{KeptState}
 use Rattle.session_table.specs.Sessions.{Table}
 
 -- another world beside the same keepers: with these sessions

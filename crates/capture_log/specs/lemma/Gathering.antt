@@ -1,6 +1,6 @@
 -- What gathering the bytes of a capture into lines does (this profile).
 use Rattle.std.specs.Prelude.{◌≡◌, ℕ, ◌≤◌, false, List, [], ◌∷◌, ◌++◌, length, All, Option, Some, None}
-use Rattle.capture_log_lines.specs.Lines.{longest_line}
+use Rattle.capture_log_lines.specs.log.Lines.{longest_line}
 use Rattle.capture_log.specs.Judged.{JudgedAt}
 use Rattle.capture_log.specs.Reading.{is_newline, lines_in}
 use Rattle.capture_log_server.specs.CaptureState.{CaptureState, Leads, begins}

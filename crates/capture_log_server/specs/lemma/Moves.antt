@@ -7,11 +7,11 @@ use Rattle.afp_serial.specs.Went.{Step, step}
 use Rattle.afp_serial.specs.declared.ask.Ask.TheVariants as asks
 use Rattle.afp_serial.specs.declared.ask.Told.{Told}
 use Rattle.dsi_frame.specs.Frame.{Frame}
-use Rattle.afp_server.specs.Tally.{no_tally, tallied}
-use Rattle.afp_server.specs.Wire.{WireState}
-use Rattle.afp_server.specs.declared.stage.Stage.{Stage}
-use Rattle.afp_server.specs.declared.stage.Stage.TheVariants.{Fresh}
-use Rattle.afp_server.specs.declared.tally.Tally.{Tally}
+use Rattle.afp_server.specs.link.Tally.{no_tally, tallied}
+use Rattle.afp_server.specs.link.Wire.{WireState}
+use Rattle.afp_server.specs.declared.link.stage.Stage.{Stage}
+use Rattle.afp_server.specs.declared.link.stage.Stage.TheVariants.{Fresh}
+use Rattle.afp_server.specs.declared.link.tally.Tally.{Tally}
 use Rattle.capture_log_server.specs.Connections.{Connection, TakesBytes, fed_with, difference, output, entries_of, AreServed}
 use Rattle.capture_log_server.specs.declared.difference.Difference.{Difference}
 use Rattle.capture_log_server.specs.CaptureState.{after_quiet, after_loss}

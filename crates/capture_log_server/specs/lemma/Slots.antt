@@ -1,8 +1,8 @@
 -- What the calls on a connection at a place do (this profile).
 use Rattle.std.specs.Prelude.{◌≡◌, ℕ, false, List, Option, Some, slice_get, slice_set}
 use Rattle.afp_serial.specs.Shown.{Shown}
-use Rattle.afp_server.specs.Wire.{open_link}
-use Rattle.afp_server.specs.declared.tally.Tally.{Tally}
+use Rattle.afp_server.specs.link.Wire.{open_link}
+use Rattle.afp_server.specs.declared.link.tally.Tally.{Tally}
 use Rattle.capture_log_server.specs.Connections.{Connection}
 use Rattle.capture_log_server.specs.lemma.Moves.{FeedsConnection, IdlesConnection, LosesConnection, Compares}
 use Rattle.capture_log_server.specs.States.{ConnectionState, IsConnection}

@@ -6,12 +6,12 @@ use Rattle.afp_serial.specs.Went.{Step}
 use Rattle.dsi_frame.specs.Deframe.{GivenOut}
 use Rattle.dsi_frame.specs.Frame.{Frame}
 use Rattle.dsi_frame.specs.Replies.{spelling_of}
-use Rattle.afp_server.specs.Script.{Script}
-use Rattle.afp_server.specs.Tally.{no_tally, tallied}
-use Rattle.afp_server.specs.Wire.{WireState}
-use Rattle.afp_server.specs.declared.stage.FrameEnd.{FrameEnd}
-use Rattle.afp_server.specs.declared.stage.Stage.TheVariants.{Closing}
-use Rattle.afp_server.specs.declared.wire.WireEnd.{WireEnd}
+use Rattle.afp_server.specs.link.Script.{Script}
+use Rattle.afp_server.specs.link.Tally.{no_tally, tallied}
+use Rattle.afp_server.specs.link.Wire.{WireState}
+use Rattle.afp_server.specs.declared.link.stage.FrameEnd.{FrameEnd}
+use Rattle.afp_server.specs.declared.link.stage.Stage.TheVariants.{Closing}
+use Rattle.afp_server.specs.declared.link.wire.WireEnd.{WireEnd}
 use Rattle.capture_log_server.specs.Connections.{FramesEnd, entries_of, AreServed}
 
 -- Bytes were fed to a wire: these frames of all its bytes were handled, by these steps, which the teller answered.

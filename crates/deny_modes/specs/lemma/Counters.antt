@@ -3,7 +3,7 @@ use Rattle.std.specs.Prelude.{◌≡◌, ℕ, ◌<◌, ◌≤◌, ◌+◌, ◌-�
 use Rattle.std.specs.List.{AllByRecursion}
 use Rattle.std.specs.Map.{keys_of}
 use Rattle.afp_base.specs.DenyMode.{Access, Fork, is_one_fork}
-use Rattle.sorted_map.specs.Entries.{at}
+use Rattle.sorted_map.specs.map.Entries.{at}
 use Rattle.deny_modes.specs.declared.opens.Opened.{Opened}
 use Rattle.deny_modes.specs.declared.opens.ForkTally.{ForkTally}
 use Rattle.afp_base.specs.Apart.{are_apart}

@@ -1,8 +1,8 @@
 -- What one read does to the buffer of a deframer.
 use Rattle.std.specs.Prelude.{◌≡◌, ℕ, ◌+◌, ◌≤◌, List, ◌++◌, length, take, drop}
-use Rattle.afp_outside.specs.Link.{LinkState, ReadsPiece, ReadsQuiet, ReadsEnd, FailsToRead}
-use Rattle.afp_outside.specs.declared.link.ReadResult.{ReadResult}
-use Rattle.afp_outside.specs.declared.link.ReadResult.TheVariants as results
+use Rattle.afp_outside.specs.ends.Link.{LinkState, ReadsPiece, ReadsQuiet, ReadsEnd, FailsToRead}
+use Rattle.afp_outside.specs.declared.ends.link.ReadResult.{ReadResult}
+use Rattle.afp_outside.specs.declared.ends.link.ReadResult.TheVariants as results
 
 -- The n bytes that came stand in the buffer behind those that were held.
 pub record Filled (rest : List ℕ) (most : ℕ) (before : LinkState) (n start held : ℕ) (buffer : List ℕ) (after : LinkState) : Type 0 where

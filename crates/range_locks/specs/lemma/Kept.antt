@@ -3,7 +3,7 @@ use Rattle.std.specs.Prelude.{◌≡◌, ℕ, ◌≤◌, ◌<◌, nat_le, nat_lt
 use Rattle.std.specs.List.{list_any}
 use Rattle.std.specs.List.Sorted.{IsNonDecreasingBy}
 use Rattle.afp_base.specs.DenyMode.{Fork, is_one_fork}
-use Rattle.sorted_map.specs.Entries.{at}
+use Rattle.sorted_map.specs.map.Entries.{at}
 use Rattle.afp_base.specs.Overlap.{Range}
 use Rattle.afp_base.specs.Apart.{are_apart}
 use Rattle.deny_modes.specs.lemma.ForkOrder.{fork_cmp}

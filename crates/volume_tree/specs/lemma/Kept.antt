@@ -2,7 +2,7 @@
 use Rattle.std.specs.Prelude.{◌≡◌, ℕ, ◌<◌, ◌+◌, ◌==◌, ◌||◌, Bool, true, false, if◌then◌else◌, List, [], length, Option, Some, None, is_some}
 use Rattle.std.specs.List.{list_all}
 use Rattle.std.specs.Ordering.{nat_cmp}
-use Rattle.sorted_map.specs.Entries.{at}
+use Rattle.sorted_map.specs.map.Entries.{at}
 use Rattle.afp_base.specs.declared.ids.NodeId.{NodeId}
 use Rattle.node_rows.specs.Kept.{RowsValue, marked}
 use Rattle.node_rows.specs.declared.node.Marks.{Marks}

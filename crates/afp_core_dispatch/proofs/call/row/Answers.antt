@@ -1,6 +1,6 @@
 use Rattle.std.proofs.Common.{◌≡◌, ◌∙◌, ap, of_z, rules, sym, to_z, w32, w64}
-use Rattle.afp_calls_grammar.specs.declared.call.Call.TheVariants.{AddIcon, DisconnectOldSession, Login, LoginExt, MapName, SetDirParms, SetForkParms, Write, WriteExt}
-use Rattle.afp_core_volumes.proofs.CallRows.{create_file-changes, delete-changes, move_and_rename-changes, rename-changes, set_file_dir_parms-changes, set_file_parms-changes, set_vol_parms-changes}
+use Rattle.afp_calls_grammar.specs.declared.grammar.call.Call.TheVariants.{AddIcon, DisconnectOldSession, Login, LoginExt, MapName, SetDirParms, SetForkParms, Write, WriteExt}
+use Rattle.afp_core_calls.proofs.OfVolumes.CallRows.{create_file-changes, delete-changes, move_and_rename-changes, rename-changes, set_file_dir_parms-changes, set_file_parms-changes, set_vol_parms-changes}
 use Rattle.afp_core_state.proofs.RowLemmas.{call-as, row-as}
 use Rattle.afp_core_dispatch.proofs.call.row.Goals as goal
 

@@ -1,5 +1,5 @@
 use Rattle.std.proofs.Common.{◌∙◌, ap, sym, refl}
-use Rattle.afp_calls_grammar.specs.declared.call.Call.TheVariants.{Login}
+use Rattle.afp_calls_grammar.specs.declared.grammar.call.Call.TheVariants.{Login}
 use Rattle.afp_serial.specs.Login.{logs_in_row, tail_place}
 use Rattle.afp_core_dispatch.proofs.LoginLemmas.{login-row}
 use Rattle.afp_core_dispatch.proofs.login.login.Goals as goal

@@ -1,5 +1,5 @@
 use Rattle.std.proofs.Common.{◌∙◌, ap, sym, refl}
-use Rattle.afp_calls_grammar.specs.declared.call.Call.TheVariants.{LoginExt}
+use Rattle.afp_calls_grammar.specs.declared.grammar.call.Call.TheVariants.{LoginExt}
 use Rattle.afp_serial.specs.Login.{logs_in_row}
 use Rattle.afp_core_dispatch.proofs.LoginLemmas.{login-ext-row}
 use Rattle.afp_core_dispatch.proofs.login.login_ext.Goals as goal

@@ -1,7 +1,7 @@
 use Rattle.std.proofs.Common.{Bor, ◌≡◌, ◌∙◌, ap, refl, sym, List, ℕ}
 use Rattle.std.proofs.lemmas.Bool.{le-leb, lt-leb, eq-eqb, ne_eqb}
 use Rattle.afp_base.specs.declared.code.Code.TheVariants.{BitmapErr, ParamErr}
-use Rattle.afp_calls_grammar.specs.declared.call.Call.TheVariants.{GetSrvrMsg}
+use Rattle.afp_calls_grammar.specs.declared.grammar.call.Call.TheVariants.{GetSrvrMsg}
 use Rattle.afp_serial.specs.GetSrvrMsg.{message_of, message_since}
 use Rattle.afp_core_state.specs.KeptWorld.{KeptWorld}
 use Rattle.afp_core_state.proofs.RowLemmas.{is_refused}

@@ -1,6 +1,6 @@
 use Rattle.std.proofs.Common.{rules, inl, inr}
 use Rattle.std.proofs.lemmas.Bool.{cases_Bool}
-use Rattle.afp_calls_grammar.specs.Spelt.{is_command}
+use Rattle.afp_calls_grammar.specs.grammar.Spelt.{is_command}
 use Rattle.afp_core_dispatch.proofs.spelling.judged_call.Goals as goal
 
 -- what is read begins with a command

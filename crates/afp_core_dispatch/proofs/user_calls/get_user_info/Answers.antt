@@ -1,6 +1,6 @@
 use Rattle.std.proofs.Common.{◌==◌, ◌≡◌, ◌∙◌, ap, sym, refl, ℕ, ◌++◌, ◌&&◌, not, List}
 use Rattle.afp_base.specs.declared.code.Code.TheVariants.{BitmapErr, ItemNotFound}
-use Rattle.afp_calls_grammar.specs.declared.call.Call.TheVariants.{GetUserInfo}
+use Rattle.afp_calls_grammar.specs.declared.grammar.call.Call.TheVariants.{GetUserInfo}
 use Rattle.afp_replies.specs.Replies.{canonical_reply}
 use Rattle.afp_serial.specs.GetUserInfo.{asks_own, id_of, user_info}
 use Rattle.afp_core_state.specs.KeptWorld.{KeptWorld}

@@ -1,6 +1,6 @@
 use Rattle.std.proofs.Common.{◌≡◌, ◌∙◌, ap, sym, refl, ℕ, ◌++◌, List}
 use Rattle.afp_base.specs.declared.code.Code.TheVariants.{ItemNotFound}
-use Rattle.afp_calls_grammar.specs.declared.call.Call.TheVariants.{MapName}
+use Rattle.afp_calls_grammar.specs.declared.grammar.call.Call.TheVariants.{MapName}
 use Rattle.afp_replies.specs.Replies.{canonical_reply}
 use Rattle.afp_replies.specs.declared.reply.Reply.TheVariants.{MappedId}
 use Rattle.afp_serial.specs.MapName.{id_of_name}

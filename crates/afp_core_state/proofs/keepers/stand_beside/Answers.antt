@@ -1,5 +1,5 @@
 use Rattle.std.proofs.Common.{◌-◌, List, arith, subst, drop}
-use Rattle.volume_keeper_commit.specs.Kept.{KeptState}
+use Rattle.volume_keeper.specs.kept.Kept.{KeptState}
 use Rattle.afp_core_state.specs.lemma.Holding.{IsBeside, StandBeside}
 use Rattle.afp_core_state.proofs.HoldingLemmas.{beside-more}
 use Rattle.afp_core_state.proofs.keepers.stand_beside.Goals as goal

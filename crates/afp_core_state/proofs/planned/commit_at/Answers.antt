@@ -1,9 +1,9 @@
 use Rattle.std.proofs.Common.{◌<◌, ap, subst, length, arith, List, [], refl}
 use Rattle.std.proofs.lemmas.List.{length-map}
-use Rattle.volume_keeper_commit.specs.Kept.{KeptState}
+use Rattle.volume_keeper.specs.kept.Kept.{KeptState}
 use Rattle.afp_core_state.specs.KeptWorld.{KeptWorld, with_token_key, world_of}
 use Rattle.afp_core_state.proofs.KeeperLemmas.{becomes-kept}
-use Rattle.volume_keeper_commit.specs.Commits.{Commits}
+use Rattle.volume_keeper.specs.kept.Commits.{Commits}
 use Rattle.afp_core_state.proofs.PlannedRows.{may-commit}
 use Rattle.afp_core_state.proofs.planned.commit_at.Goals as goal
 

@@ -1,6 +1,6 @@
 use Rattle.std.proofs.Common.{refl}
-use Rattle.afp_calls_grammar.specs.declared.call.Call.TheVariants as calls
-use Rattle.afp_calls_grammar.specs.declared.call.Call.TheVariants.{ByteRangeLock, ByteRangeLockExt, CloseFork, FlushFork, GetForkParms, Read, ReadExt, SetForkParms, Write, WriteExt}
+use Rattle.afp_calls_grammar.specs.declared.grammar.call.Call.TheVariants as calls
+use Rattle.afp_calls_grammar.specs.declared.grammar.call.Call.TheVariants.{ByteRangeLock, ByteRangeLockExt, CloseFork, FlushFork, GetForkParms, Read, ReadExt, SetForkParms, Write, WriteExt}
 use Rattle.afp_serial.proofs.ForkRows.{close-fork-sound, flush-fork-sound, get-fork-parms-sound, read-ext-sound, read-sound}
 use Rattle.afp_serial.proofs.WriteRows.{set-fork-parms-sound, write-ext-sound, write-sound}
 use Rattle.afp_serial.proofs.LockRows.{byte-range-lock-ext-sound, byte-range-lock-sound}

@@ -1,6 +1,6 @@
 use Rattle.std.proofs.Common.{sym, ap, ◌∙◌}
 use Rattle.std.proofs.lemmas.Bool.{not-false}
-use Rattle.afp_server.specs.declared.tally.Tally.{Tally}
+use Rattle.afp_server.specs.declared.link.tally.Tally.{Tally}
 use Rattle.capture_log_server.proofs.Feeding.{at_none, fed_wire}
 use Rattle.capture_log_server.proofs.connection.feed_wire.Goals as goal
 

@@ -1,5 +1,5 @@
 use Rattle.std.proofs.Common.{arith, subst, ℕ, ◌+◌, ◌≡◌, take, drop, ◌-◌}
-use Rattle.afp_outside.specs.Link.{Reads}
+use Rattle.afp_outside.specs.ends.Link.{Reads}
 use Rattle.dsi_frame.proofs.Filling.{fills}
 use Rattle.dsi_frame.proofs.deframer.read_behind.Goals as goal
 

@@ -1,6 +1,6 @@
 use Rattle.std.proofs.Common.{[]}
 use Rattle.std.proofs.lemmas.List.Elements.{All-append, All-cons, All-nil}
-use Rattle.afp_outside.specs.Tape.{IsFreshTape}
+use Rattle.afp_outside.specs.ends.Tape.{IsFreshTape}
 use Rattle.test_clients.proofs.link.tapes.Goals as goal
 
 pub loop-link-preserved : goal.loop-link-preserved

@@ -1,5 +1,5 @@
 use Rattle.std.specs.Prelude.{All}
-use Rattle.afp_outside.specs.Tape.{IsFreshTape}
+use Rattle.afp_outside.specs.ends.Tape.{IsFreshTape}
 use Rattle.test_clients.proofs.link.tapes.Given as goal
 
 abbrev pub invariant-loop-link : goal.invariant-loop-link

@@ -1,6 +1,6 @@
 use Rattle.std.proofs.Common.{[]}
 use Rattle.std.proofs.lemmas.List.Elements.{All-append, All-cons, All-nil}
-use Rattle.afp_outside.specs.Tape.{IsFreshTape}
+use Rattle.afp_outside.specs.ends.Tape.{IsFreshTape}
 use Rattle.test_runs.proofs.server.links_of.Goals as goal
 
 pub loop-one-preserved : goal.loop-one-preserved

@@ -1,5 +1,5 @@
 use Rattle.std.specs.Prelude.{All}
-use Rattle.afp_outside.specs.Tape.{IsFreshTape}
+use Rattle.afp_outside.specs.ends.Tape.{IsFreshTape}
 use Rattle.test_runs.proofs.server.links_of.Given as goal
 
 abbrev pub invariant-loop-one : goal.invariant-loop-one

@@ -1,5 +1,5 @@
 use Rattle.std.proofs.Common.{lit≤}
-use Rattle.afp_calls_grammar.specs.Call.{canonical_call, canonical_piece}
+use Rattle.afp_calls_grammar.specs.grammar.Call.{canonical_call, canonical_piece}
 use Rattle.test_sessions.proofs.client.flush.Goals as goal
 
 pub ask-requires-clause-fits : goal.ask-requires-clause-fits

@@ -1,7 +1,7 @@
 use Rattle.std.proofs.Common.{◌∙◌, ap, sym, subst}
 use Rattle.std.specs.Ordering.{nat_cmp}
 use Rattle.fork_bytes.specs.Plan.{IsForkPlan as IsForkPlan}
-use Rattle.sorted_map.specs.Entries.{at}
+use Rattle.sorted_map.specs.map.Entries.{at}
 use Rattle.volume_tree.specs.lemma.ForkEffect.{kept_fork}
 use Rattle.volume_tree.proofs.Writing.{put-changed}
 use Rattle.volume_tree.proofs.kept_forks.change_fork.Goals as goal

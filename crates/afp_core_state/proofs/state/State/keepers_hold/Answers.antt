@@ -1,5 +1,5 @@
 use Rattle.std.proofs.Common.{List, [], subst}
-use Rattle.volume_keeper_commit.specs.Kept.{KeptState}
+use Rattle.volume_keeper.specs.kept.Kept.{KeptState}
 use Rattle.afp_core_state.specs.KeptWorld.{with_token_key, world_of}
 use Rattle.afp_core_state.specs.lemma.Holding.{StandBeside}
 use Rattle.afp_core_state.proofs.HoldingLemmas.{are-held}

@@ -1,7 +1,7 @@
 use Rattle.std.proofs.Common.{◌<◌, ap, subst, length, arith, List, [], refl}
 use Rattle.std.proofs.lemmas.List.{length-map}
-use Rattle.volume_keeper_commit.specs.Changing.{Settles}
-use Rattle.volume_keeper_commit.specs.Kept.{KeptState}
+use Rattle.volume_keeper.specs.kept.Changing.{Settles}
+use Rattle.volume_keeper.specs.kept.Kept.{KeptState}
 use Rattle.afp_core_state.specs.KeptWorld.{KeptWorld, with_token_key, world_of}
 use Rattle.afp_core_state.proofs.KeeperLemmas.{becomes-kept}
 use Rattle.afp_core_state.proofs.state.State.settle_at.Goals as goal

@@ -1,7 +1,7 @@
 use Rattle.std.proofs.Common.{sym, ap, ◌∙◌, arith, true}
 use Rattle.std.specs.Prelude.{Option, Some}
 use Rattle.afp_serial.specs.StatusBlock.{status_block}
-use Rattle.afp_server.specs.Wire.{WireState}
+use Rattle.afp_server.specs.link.Wire.{WireState}
 use Rattle.capture_log_server.specs.lemma.Moves.{wire_or}
 use Rattle.capture_log_server.specs.States.{ConnectionState}
 use Rattle.capture_log_server.proofs.ConnectionLemmas.{Ready, ready, fed_connection}

@@ -1,7 +1,7 @@
 use Rattle.std.proofs.Common.{◌∙◌, sym, subst}
 use Rattle.deny_modes.specs.lemma.Counters.{IsTallied}
 use Rattle.deny_modes.proofs.Counting.{nothing_gone, gone_shows, gone_there, no_tally_is_wrong, has_open, last_gone, one_gone, put_over}
-use Rattle.sorted_map.specs.Entries.{at}
+use Rattle.sorted_map.specs.map.Entries.{at}
 use Rattle.deny_modes.specs.lemma.ForkOrder.{fork_cmp}
 use Rattle.deny_modes.proofs.opens.Opens.forget.Goals as goal
 

@@ -1,7 +1,7 @@
 use Rattle.std.proofs.Common.{◌∙◌, sym, ap}
 use Rattle.std.specs.Prelude.{option_map}
 use Rattle.std.specs.Ordering.{nat_cmp}
-use Rattle.sorted_map.specs.Entries.{at}
+use Rattle.sorted_map.specs.map.Entries.{at}
 use Rattle.fork_table.specs.ForkTable.{Table}
 use Rattle.fork_table.proofs.Keeping.{table_locked}
 use Rattle.fork_table.proofs.table.ForkTable.lock.Goals as goal

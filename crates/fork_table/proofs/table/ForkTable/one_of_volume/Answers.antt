@@ -3,7 +3,7 @@ use Rattle.std.specs.List.{list_any}
 use Rattle.std.specs.Ordering.{nat_cmp}
 use Rattle.std.proofs.lemmas.List.{take_all}
 use Rattle.std.proofs.lemmas.List.Folds.{list_any_more}
-use Rattle.sorted_map.specs.Entries.{at}
+use Rattle.sorted_map.specs.map.Entries.{at}
 use Rattle.fork_table.specs.ForkTable.{Table, is_of_volume}
 use Rattle.fork_table.specs.lemma.Kept.{does_pass}
 use Rattle.fork_table.specs.lemma.Own.{is_own, own_entry}

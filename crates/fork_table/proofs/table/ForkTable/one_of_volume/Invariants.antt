@@ -1,7 +1,7 @@
 use Rattle.std.proofs.Common.{◌≡◌, false, take}
 use Rattle.std.specs.List.{list_any}
 use Rattle.std.specs.Ordering.{nat_cmp}
-use Rattle.sorted_map.specs.Entries.{at}
+use Rattle.sorted_map.specs.map.Entries.{at}
 use Rattle.fork_table.specs.ForkTable.{is_of_volume}
 use Rattle.fork_table.specs.lemma.Kept.{does_pass}
 use Rattle.fork_table.specs.declared.own.OwnRef.{OwnRef}

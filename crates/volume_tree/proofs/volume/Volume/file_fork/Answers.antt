@@ -1,6 +1,6 @@
 use Rattle.std.proofs.Common.{◌≡◌, ◌∙◌, ap, sym, subst, true, nat_cmp, Some, None}
 use Rattle.std.specs.Option.{option_copied}
-use Rattle.sorted_map.specs.Entries.{at}
+use Rattle.sorted_map.specs.map.Entries.{at}
 use Rattle.volume_spec.specs.SoundVolume.{has_file}
 use Rattle.volume_tree.proofs.KeptForks.{always-kept, has-file, is-fork}
 use Rattle.volume_tree.proofs.Showing.{ids-differ}

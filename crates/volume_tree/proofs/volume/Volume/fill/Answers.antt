@@ -2,7 +2,7 @@ use Rattle.std.proofs.Common.{◌≤◌, ◌∙◌, ◌+◌, ◌*◌, ap, sym, s
 use Rattle.afp_base.specs.ForkBytes.{splice}
 use Rattle.afp_base.specs.Limits.{most_fork_bytes}
 use Rattle.fork_bytes.specs.Plan.{IsForkPlan as IsForkPlan}
-use Rattle.sorted_map.specs.Entries.{at}
+use Rattle.sorted_map.specs.map.Entries.{at}
 use Rattle.volume_spec.specs.VolumeState.{VolumeState}
 use Rattle.volume_tree.proofs.Filling.{after, ends-within, file, filled-kept, filled-state, plan-is}
 use Rattle.volume_tree.specs.Filled.{FitsFork, filled}

@@ -1,6 +1,6 @@
 use Rattle.std.proofs.Common.{◌∙◌, ap, sym, Some, nat_cmp}
 use Rattle.std.specs.Option.{option_copied}
-use Rattle.sorted_map.specs.Entries.{at}
+use Rattle.sorted_map.specs.map.Entries.{at}
 use Rattle.volume_tree.proofs.KeptForks.{no-fork, is-fork, always-kept}
 use Rattle.volume_tree.specs.Shown.{TreeValue, fork_at}
 use Rattle.volume_tree.proofs.volume.Volume.fork.Goals as goal

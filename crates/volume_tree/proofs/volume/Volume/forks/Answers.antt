@@ -1,6 +1,6 @@
 use Rattle.std.proofs.Common.{◌∙◌, ap, sym, subst, nat_cmp}
 use Rattle.std.specs.Option.{option_copied}
-use Rattle.sorted_map.specs.Entries.{at}
+use Rattle.sorted_map.specs.map.Entries.{at}
 use Rattle.volume_spec.specs.VolumeState.{Row}
 use Rattle.volume_tree.proofs.KeptForks.{of-directory, of-file}
 use Rattle.volume_tree.specs.Shown.{IsNode, TreeValue, fork_at}

@@ -1,7 +1,7 @@
 use Rattle.std.proofs.Common.{◌≡◌, ◌==◌, ◌∙◌, ◌+◌, ◌++◌, ◌∷◌, [], Some, ap, sym, refl, subst, arith, rules, nat_cmp}
 use Rattle.std.specs.Prelude.{if◌then◌else◌}
 use Rattle.afp_names.specs.Name.{name_key}
-use Rattle.sorted_map.specs.Entries.{at}
+use Rattle.sorted_map.specs.map.Entries.{at}
 use Rattle.volume_spec.specs.Edit.{Comes, edited}
 use Rattle.volume_spec.specs.EditLaws.{MayCome}
 use Rattle.volume_spec.specs.Edits.{bare, with_row}

@@ -1,8 +1,0 @@
--- Each request about the desktop database has the fields that its reader reads.
-use Rattle.std.proofs.Common.{refl}
-use Rattle.std.specs.List.{AllByRecursion}
-use Rattle.afp_calls_grammar.specs.Readers.{desktop_readers}
-use Rattle.afp_calls_grammar.proofs.ReaderLemmas.{ReaderIsSound}
-
-pub desktop_sound : AllByRecursion ReaderIsSound desktop_readers
-desktop_sound = (λ vs bytes h. refl, (λ vs bytes h. refl, (λ vs bytes h. refl, (λ vs bytes h. refl, (λ vs bytes h. refl, (λ vs bytes h. refl, (λ vs bytes h. refl, (λ vs bytes h. refl, (λ vs bytes h. refl, (λ vs bytes h. refl, (λ vs bytes h. refl, tt)))))))))))

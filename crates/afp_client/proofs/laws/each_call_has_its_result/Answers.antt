@@ -1,5 +1,0 @@
-use Rattle.afp_client.proofs.ResultLemmas.{each_has_its_result}
-use Rattle.afp_client.proofs.laws.each_call_has_its_result.Goals as goal
-
-pub returns : goal.returns
-returns c = each_has_its_result

@@ -1,0 +1,13 @@
+//! A client's links over a dialer.
+
+mod came;
+mod laws;
+mod links;
+mod round;
+mod send;
+mod talk;
+
+pub use crate::links::came::{Came, Next};
+pub use crate::links::laws::histories_are_steps;
+pub use crate::links::links::TalkEnd;
+pub use crate::links::talk::{Limit, Talk, Told};

@@ -1,7 +1,0 @@
-//! The rows of calls on the bytes of open forks: reads, writes and locks.
-#![tactic(auto)]
-
-pub mod byte_range_lock;
-mod on_bytes;
-pub mod read;
-pub mod write;

@@ -1,0 +1,5 @@
+pub mod OfVolumes
+pub mod OfForks
+pub mod OfBytes
+pub mod OfDesktop
+pub mod OfFiles

@@ -1,0 +1,4 @@
+pub mod OnVolumeRows
+pub mod VolumeLemmas
+pub mod CallRows
+pub mod UserIds

@@ -1,0 +1,21 @@
+use Rattle.std.proofs.Common.{subst}
+use Rattle.afp_core_state.specs.OnVolumes.{IsOpen}
+use Rattle.volume_spec.specs.VolumeCalls.{RemoveAPPL}
+use Rattle.afp_core_calls.proofs.OfDesktop.CallRows.{remove_appl-changes}
+use Rattle.afp_core_state.proofs.PlannedRows.{plan-runs, plans-commit, volume-unopened}
+use Rattle.afp_core_calls.proofs.desktop.appls.remove_appl.Goals as goal
+
+pub run_plan-requires-clause-may : goal.run_plan-requires-clause-may
+run_plan-requires-clause-may g c =
+    plans-commit c.args.state.now c.in-Some.index c.user.result c.whole_at-volume.result.now.state c.latest.result (RemoveAPPL c.args.dir.0 c.args.creator c.args.path.now) c.plan_remove_appl-answer.result c.whole_at-volume.ensures c.plan_remove_appl-answer.ensures.plan
+
+pub returns-in_default : goal.returns-in_default
+returns-in_default g c =
+    volume-unopened c.args.state.now c.args.session.0 _ c.args.dt _ _ (remove_appl-changes c.args.dt c.args.dir c.args.creator c.args.path.now) _
+    (subst (IsOpen c.args.state.now c.args.session.0 c.args.dt) c.in_default.is c.opened.ensures) c.refused.ensures
+
+pub returns : goal.returns
+returns g c =
+    let answer = c.plan_remove_appl-answer in
+    plan-runs c.args.state.now c.args.session.0 _ c.args.dt _ _ (remove_appl-changes c.args.dt c.args.dir c.args.creator c.args.path.now) c.run_plan.new.state c.user.result c.in-Some.index c.whole_at-volume.result.now.state c.latest.result answer.result c.new-nothing.result c.run_plan.result
+    c.user.ensures c.in-Some.ensures c.whole_at-volume.ensures c.latest.ensures answer.ensures.refused answer.ensures.plan (λ passes. c.new-nothing.ensures) c.run_plan.ensures

@@ -1,2 +1,0 @@
-pub mod CallRows
-mod DeskLemmas

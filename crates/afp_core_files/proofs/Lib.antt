@@ -1,6 +1,0 @@
-pub mod FileRows
-mod FileLemmas
-mod ExchangeRows
-mod CopyRows
-mod CopyLemmas
-mod PairLemmas

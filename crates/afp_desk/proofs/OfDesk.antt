@@ -1,0 +1,5 @@
+pub mod Totals
+pub mod Growing
+pub mod Steps
+pub mod Turns
+pub mod Passing

@@ -1,0 +1,4 @@
+pub mod Gathering
+pub mod Staffing
+pub mod Linking
+pub mod HouseLemmas

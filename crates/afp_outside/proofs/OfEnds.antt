@@ -1,0 +1,4 @@
+pub mod Events
+pub mod Given
+pub mod Links
+pub mod Whole

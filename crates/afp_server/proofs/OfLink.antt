@@ -1,0 +1,17 @@
+pub mod Buffers
+pub mod Moving
+pub mod Passing
+pub mod Rows
+pub mod Tallies
+pub mod Traces
+pub mod Serving
+pub mod Moments
+pub mod Scripts
+pub mod WireLemmas
+pub mod FrameSteps
+pub mod ReadSteps
+pub mod Requesting
+pub mod ScriptLaws
+pub mod Completeness
+pub mod Written
+pub mod Idling

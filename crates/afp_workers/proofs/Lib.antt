@@ -1,4 +1,0 @@
-mod Gathering
-mod Staffing
-mod Linking
-mod HouseLemmas

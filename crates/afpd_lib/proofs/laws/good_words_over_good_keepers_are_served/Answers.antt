@@ -1,6 +1,0 @@
-use Rattle.afp_workers.specs.Keeping.{keeping}
-use Rattle.afpd_lib.proofs.RunLaws.{serves_good_keepers}
-use Rattle.afpd_lib.proofs.laws.good_words_over_good_keepers_are_served.Goals as goal
-
-pub returns : goal.returns
-returns g c = serves_good_keepers g.N.Link.Link.link_state g.G.Gate.passed g.N.Listener.door_state (keeping g.K.Keeper.records g.K.Keeper.steady g.K.Keeper.sure g.K.Keeper.faults g.K.Keeper.settles)

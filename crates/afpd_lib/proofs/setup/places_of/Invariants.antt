@@ -1,7 +1,0 @@
-use Rattle.std.proofs.Common.{◌≡◌, map, take}
-use Rattle.afpd_words.specs.lemma.Values.{place_value}
-use Rattle.afpd_lib.specs.Setup.{kept_at}
-use Rattle.afpd_lib.proofs.setup.places_of.Given as goal
-
-abbrev pub invariant-loop-volume : goal.invariant-loop-volume
-invariant-loop-volume l = l.places.items ≡ map (λ volume. kept_at (place_value volume.place)) (take l.volume-index l.volumes)

@@ -1,0 +1,6 @@
+pub mod AskedHouse
+pub mod Complete
+pub mod Reporting
+pub mod Run
+pub mod Setup
+pub mod lemma

@@ -1,0 +1,10 @@
+use Rattle.std.proofs.Common.{◌≡◌, ℕ, List, ◌++◌, length}
+use Rattle.capture_made.specs.made.Making.{Writes}
+use Rattle.capture_made.proofs.made.writing.write_text.Given as goal
+
+abbrev pub invariant-loop-left : goal.invariant-loop-left
+invariant-loop-left g l =
+    (sent : List ℕ) × (l.text ≡ sent ++ l.left) × Writes (g.O.Sink.sink_state l.initial.out) sent (g.O.Sink.sink_state l.out)
+
+abbrev pub decreases-loop-left : goal.decreases-loop-left
+decreases-loop-left g l = length l.left

@@ -1,5 +1,0 @@
-use Rattle.std.proofs.Common.{rules}
-use Rattle.client_script_commands.proofs.put.put.Goals as goal
-
-pub returns : goal.returns
-returns g c = search rules

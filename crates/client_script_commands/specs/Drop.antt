@@ -1,8 +1,0 @@
--- drop REFERENCE (this profile).
-use Rattle.std.specs.Prelude.{codes}
-use Rattle.afp_base.specs.declared.ids.ForkRef.{ForkRef}
-use Rattle.client_script_calls.specs.Requests.{close_fork}
-use Rattle.client_script_parts.specs.Parts.{Part, done, must_do}
-
-abbrev pub drop : ForkRef → Part
-drop reference = must_do (close_fork reference) (done (codes "ok"))

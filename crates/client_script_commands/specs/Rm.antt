@@ -1,8 +1,0 @@
--- rm PATH (this profile).
-use Rattle.std.specs.Prelude.{ℕ, List, codes}
-use Rattle.afp_base.specs.declared.ids.VolumeId.{VolumeId}
-use Rattle.client_script_calls.specs.Requests.{delete}
-use Rattle.client_script_parts.specs.Parts.{Part, done, must_do}
-
-abbrev pub rm : VolumeId → List ℕ → Part
-rm volume path = must_do (delete volume path) (done (codes "ok"))

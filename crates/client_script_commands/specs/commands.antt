@@ -1,0 +1,17 @@
+pub mod Replies
+pub mod Mount
+pub mod Mkdir
+pub mod Put
+pub mod Mv
+pub mod Cp
+pub mod Swap
+pub mod Rm
+pub mod Hold
+pub mod Lock
+pub mod Unlock
+pub mod Drop
+pub mod Id
+pub mod Find
+pub mod Note
+pub mod Show
+pub mod Bye

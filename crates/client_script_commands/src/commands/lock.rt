@@ -1,0 +1,27 @@
+//! `lock REFERENCE FROM LENGTH`.
+ghost use Rattle.std.specs.Prelude.{◌<◌, ◌^◌};
+ghost use Rattle.client_script_commands.specs.parts.Parts.{Comes};
+ghost use Rattle.client_script_commands.specs.commands.Lock.{lock};
+
+use crate::commands::replies::ask_start;
+use crate::parts::{Asker, Stop, parts_end};
+use afp_base::{Bytes, ForkRef};
+use client_script_lines::{calls as calls, numbered};
+use std::alloc::Global;
+
+/// `lock REFERENCE FROM LENGTH`.
+pub fn lock<A: Asker>(
+    alloc: Global,
+    asker: &mut A,
+    reference: ForkRef,
+    from: u64,
+    size: u64,
+) -> Result<Bytes, Stop<A::End>>
+    requires from { from < 2 ^ 63 }
+    requires size { size < 2 ^ 63 }
+    ensures { Comes (A.exchanges asker.old) (lock reference from size) result (A.exchanges asker.new) }
+{
+    parts_end::<A>();
+    let start = ask_start(asker, calls::lock(reference, from, size))?;
+    Ok(numbered(alloc, b"start ", start)?)
+}

@@ -1,5 +1,0 @@
-//! `get` of a client's script, and reads of a fork until its end, over whoever asks its calls.
-#![tactic(auto)]
-
-pub mod get;
-pub mod reads;

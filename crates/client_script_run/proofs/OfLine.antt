@@ -1,0 +1,2 @@
+pub mod MountLemmas
+pub mod ValueLemmas

@@ -1,0 +1,65 @@
+//! Commands on open forks.
+ghost use Rattle.client_script_commands.specs.commands.Drop.{drop};
+ghost use Rattle.client_script_commands.specs.commands.Lock.{lock};
+ghost use Rattle.client_script_commands.specs.commands.Unlock.{unlock};
+ghost use Rattle.client_script_commands.specs.parts.Parts.{Comes};
+ghost use Rattle.client_script_run.specs.line.Run.{fork_of};
+ghost use Rattle.client_script_run.specs.line.Values.{number_of};
+
+use crate::line::values::number_of;
+use afp_base::{Bytes, ForkRef};
+use client_script_commands::{Asker, Stop, commands as commands, parts_end};
+use std::alloc::Global;
+
+/// The numbers of open forks lie below this.
+const REFERENCES: u64 = 1 << 16;
+
+/// Places in a fork lie below this.
+const SIZES: u64 = 1 << 63;
+
+/// `lock REFERENCE FROM LENGTH`.
+pub(crate) fn run_lock<A: Asker>(
+    alloc: Global,
+    asker: &mut A,
+    reference: &[u8],
+    from: &[u8],
+    size: &[u8],
+) -> Result<Bytes, Stop<A::End>>
+    ensures { Comes (A.exchanges asker.old) (lock (fork_of reference.now) (number_of from.now) (number_of size.now)) result (A.exchanges asker.new) }
+{
+    parts_end::<A>();
+    let number = number_of(reference, REFERENCES)?;
+    let from = number_of(from, SIZES)?;
+    let size = number_of(size, SIZES)?;
+    commands::lock::lock(alloc, asker, ForkRef(number as u16), from, size)
+}
+
+/// `unlock REFERENCE FROM LENGTH`.
+pub(crate) fn run_unlock<A: Asker>(
+    alloc: Global,
+    asker: &mut A,
+    reference: &[u8],
+    from: &[u8],
+    size: &[u8],
+) -> Result<Bytes, Stop<A::End>>
+    ensures { Comes (A.exchanges asker.old) (unlock (fork_of reference.now) (number_of from.now) (number_of size.now)) result (A.exchanges asker.new) }
+{
+    parts_end::<A>();
+    let number = number_of(reference, REFERENCES)?;
+    let from = number_of(from, SIZES)?;
+    let size = number_of(size, SIZES)?;
+    commands::unlock::unlock(alloc, asker, ForkRef(number as u16), from, size)
+}
+
+/// `drop REFERENCE`.
+pub(crate) fn run_drop<A: Asker>(
+    alloc: Global,
+    asker: &mut A,
+    reference: &[u8],
+) -> Result<Bytes, Stop<A::End>>
+    ensures { Comes (A.exchanges asker.old) (drop (fork_of reference.now)) result (A.exchanges asker.new) }
+{
+    parts_end::<A>();
+    let number = number_of(reference, REFERENCES)?;
+    commands::drop::drop(alloc, asker, ForkRef(number as u16))
+}

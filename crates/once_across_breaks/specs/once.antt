@@ -1,0 +1,16 @@
+pub mod Messages
+pub mod Fits
+pub mod Server
+pub mod Run
+pub mod Once
+pub mod Laws
+pub mod Frames
+pub mod Bytes
+pub mod Serial
+pub mod Counting
+pub mod Example
+pub mod Premises
+pub mod Effects
+pub mod Dsi
+pub mod UnderWay
+pub mod Tokens

@@ -1,8 +1,0 @@
-use Rattle.once_across_breaks_client.proofs.Calling.{calls-are-commands, logins-are-theirs}
-use Rattle.once_across_breaks_client.proofs.laws.calls_are_commands.Goals as goal
-
-pub returns-clause-calls : goal.returns-clause-calls
-returns-clause-calls c = calls-are-commands c.one_request_for_each.ensures.function
-
-pub returns-clause-logins : goal.returns-clause-logins
-returns-clause-logins c = logins-are-theirs c.effects_are_those_of_the_history.ensures.logins

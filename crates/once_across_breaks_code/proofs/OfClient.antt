@@ -1,0 +1,14 @@
+pub mod Ids
+pub mod Breaking
+pub mod Asking
+pub mod Opened
+pub mod Told
+pub mod Replying
+pub mod Calling
+pub mod Typed
+pub mod Running
+pub mod Eventing
+pub mod Few
+pub mod Reading
+pub mod Lines
+pub mod Playing

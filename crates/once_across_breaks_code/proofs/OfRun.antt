@@ -1,0 +1,15 @@
+pub mod Spelled
+pub mod AtLink
+pub mod Allowed
+pub mod Courses
+pub mod Replies
+pub mod AtServer
+pub mod Feeding
+pub mod Taking
+pub mod Noting
+pub mod AtClient
+pub mod ClientSteps
+pub mod Alone
+pub mod Sole
+pub mod Plainly
+pub mod Whole

@@ -1,4 +1,0 @@
-//! What the real server end of a link does with the frames of a client is what the law of once and in order says of it.
-#![tactic(auto)]
-
-pub mod laws;

@@ -1,0 +1,55 @@
+use afp_base::laws as base;
+use afp_calls_grammar::grammar::laws as requests;
+use afp_outside::{OpenGate, TapeListener};
+use afp_serial::laws as serial;
+use afpd_lib::server::laws as server;
+use record_keeper::MemoryKeeper;
+use volume_spec::laws as volume;
+
+#[test]
+fn laws_return(rt: HostRuntime) {
+    base::conflict_is_use_of_what_is_denied();
+    base::overlap_is_sharing_a_byte();
+    base::resizing_keeps_the_front();
+    base::splice_puts_between();
+    base::repeat_finds_newest();
+    base::numbers_tell_codes();
+    dsi_frame::one_frame();
+    dsi_frame::read_again();
+    dsi_frame::one_stream();
+    dsi_session::one_way_to_read();
+    dsi_session::ids_count_in_rounds();
+    afp_bitmap::one_block_for_each();
+    afp_bitmap::names_stand_at_their_offsets();
+    afp_replies::one_reply_for_each();
+    afp_replies::what_is_written_is_shown();
+    afp_replies::what_fits_is_shown();
+    afp_replies::what_fits_a_request_is_shown_to_it();
+    afp_replies::entries_are_even();
+    requests::one_request_for_each();
+    requests::what_is_written_is_read_again();
+    requests::what_is_spelt_can_be_written();
+    volume::ways_are_short();
+    volume::fresh_volumes_are_sound();
+    volume::calls_keep_volumes_sound();
+    volume::lists_have_each_child_once();
+    volume::tables_tell_the_tree();
+    volume::calls_keep_volumes_sound_for_ever();
+    volume::rows_are_changed_in_place();
+    volume::rows_stay_in_order();
+    volume::utf8_paths_are_named();
+    serial::sound_worlds_stay_sound();
+    serial::displaced_changes_nothing();
+    serial::kept_answer_is_told_again();
+    serial::fault_hides_no_refusal();
+    serial::session_numbers_are_given_once();
+    afp_server::what_happens_follows_the_script();
+    afp_server::each_request_has_its_reply();
+    afp_server::what_is_written_beside_replies();
+    afp_server::scripts_join();
+    afp_server::a_frame_is_timely();
+    server::good_words_are_served::<TapeListener, OpenGate, MemoryKeeper>();
+    let known = afp_calls::is_command(1);
+    let unknown = afp_calls::is_command(12);
+    assert!(rt; known && !unknown);
+}

@@ -1,0 +1,11 @@
+pub mod LookUps
+pub mod Exact
+pub mod Found
+pub mod Segments
+pub mod EditsWithin
+pub mod Covering
+pub mod Changing
+pub mod Calling
+pub mod Gathering
+pub mod Standing
+pub mod TouchedRising

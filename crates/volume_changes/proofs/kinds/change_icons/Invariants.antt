@@ -1,8 +1,0 @@
-use Rattle.std.proofs.Common.{◌≡◌, ◌++◌, ◌∷◌, map, take, List, ℕ}
-use Rattle.volume_keeper_records.specs.Image.{kept_image}
-use Rattle.volume_keeper_records.specs.Records as records
-use Rattle.volume_changes.specs.Differences.{differences}
-use Rattle.volume_changes.proofs.kinds.change_icons.Given as goal
-
-abbrev pub invariant-loop-i : goal.invariant-loop-i
-invariant-loop-i g l = l.changes.items ≡ l.fn.changes.items ++ differences (map (λ (key : List ℕ). records.icon_tag ∷ key) (take l.i l.keys)) (kept_image (g.S.Transition.before l.step)) (kept_image (g.S.Transition.after l.step))

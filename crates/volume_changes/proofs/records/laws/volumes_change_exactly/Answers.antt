@@ -1,0 +1,15 @@
+use Rattle.volume_changes.proofs.records.laws.volumes_change_exactly.Goals as goal
+use Rattle.volume_keeper_records.proofs.ForkParts.{ForkLaw}
+use Rattle.volume_changes.proofs.OfRecords.Changing.{volumes_change, volumes_exact}
+
+pub returns : goal.returns
+returns c =
+    let law : ForkLaw = record {
+      back = c.blocks_are_bytes.ensures.back;
+      forth = c.blocks_are_bytes.ensures.forth;
+      size = c.blocks_are_bytes.ensures.length;
+      rising = c.blocks_of_bytes_are_kept.ensures.rising;
+      kept = c.blocks_of_bytes_are_kept.ensures.kept;
+      few = c.blocks_of_bytes_are_kept.ensures.few;
+    } in
+    record { made = volumes_change law; exact = volumes_exact law }

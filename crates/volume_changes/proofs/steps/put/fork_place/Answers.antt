@@ -1,0 +1,19 @@
+use Rattle.std.proofs.Common.{rules}
+use Rattle.std.specs.Cmp.Lexicographic.{slice_cmp}
+use Rattle.std.specs.Ordering.{nat_cmp}
+use Rattle.std.proofs.lemmas.Fn.{always_returns_same}
+use Rattle.desktop_db.proofs.Places.{searched}
+use Rattle.volume_changes.specs.steps.lemma.Put.{fork_key}
+use Rattle.volume_changes.proofs.steps.put.fork_place.Goals as goal
+
+pub returns-clause-found : goal.returns-clause-found
+returns-clause-found c =
+    let facts = c.binary_search_by.ensures in
+    let by_key = facts.position (λ other. slice_cmp nat_cmp (fork_key other) (fork_key c.args.fork.now)) (always_returns_same _ _ _ (λ a r h called. (search rules, search rules))) in
+    (searched fork_key (fork_key c.args.fork.now) c.args.forks.now c.binary_search_by.result c.requires facts.bound by_key).0
+
+pub returns-clause-gap : goal.returns-clause-gap
+returns-clause-gap c =
+    let facts = c.binary_search_by.ensures in
+    let by_key = facts.position (λ other. slice_cmp nat_cmp (fork_key other) (fork_key c.args.fork.now)) (always_returns_same _ _ _ (λ a r h called. (search rules, search rules))) in
+    (searched fork_key (fork_key c.args.fork.now) c.args.forks.now c.binary_search_by.result c.requires facts.bound by_key).1

@@ -1,0 +1,12 @@
+use Rattle.std.proofs.Common.{refl}
+use Rattle.desktop_db.proofs.Places.{gap-moved, on-ok, place-moved}
+use Rattle.volume_changes.specs.steps.lemma.Put.{fork_key}
+use Rattle.volume_changes.proofs.OfSteps.Putting.{with-gap, with-place}
+use Rattle.volume_changes.proofs.steps.put.put_fork.Goals as goal
+
+pub returns-in-Ok : goal.returns-in-Ok
+returns-in-Ok c = with-place fork_key c.args.fork c.args.forks.now.items c.in-Ok.field-0 c.requires (place-moved fork_key refl c.as_slice.ensures.value c.in-Ok.ensures.found)
+
+pub returns-in-Err : goal.returns-in-Err
+returns-in-Err c =
+    on-ok c.insert_at.result c.insert_at.ensures (λ put. with-gap fork_key c.args.fork c.args.forks.now.items _ c.in-Err.place c.requires (gap-moved fork_key refl c.as_slice.ensures.value c.in-Err.ensures.gap) put)

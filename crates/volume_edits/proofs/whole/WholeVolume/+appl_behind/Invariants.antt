@@ -1,4 +1,0 @@
-use Rattle.volume_edits.proofs.whole.WholeVolume.+appl_behind.Given as goal
-
-abbrev pub decreases-appl_behind : goal.decreases-appl_behind
-decreases-appl_behind l = l.count

@@ -1,4 +1,0 @@
-use Rattle.volume_edits.proofs.whole.WholeVolume.+backup_behind.Given as goal
-
-abbrev pub decreases-backup_behind : goal.decreases-backup_behind
-decreases-backup_behind l = l.count

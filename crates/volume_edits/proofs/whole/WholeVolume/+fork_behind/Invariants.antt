@@ -1,4 +1,0 @@
-use Rattle.volume_edits.proofs.whole.WholeVolume.+fork_behind.Given as goal
-
-abbrev pub decreases-fork_behind : goal.decreases-fork_behind
-decreases-fork_behind l = l.count

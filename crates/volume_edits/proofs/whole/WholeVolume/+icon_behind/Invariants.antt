@@ -1,4 +1,0 @@
-use Rattle.volume_edits.proofs.whole.WholeVolume.+icon_behind.Given as goal
-
-abbrev pub decreases-icon_behind : goal.decreases-icon_behind
-decreases-icon_behind l = l.count

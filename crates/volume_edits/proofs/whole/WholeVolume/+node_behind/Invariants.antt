@@ -1,4 +1,0 @@
-use Rattle.volume_edits.proofs.whole.WholeVolume.+node_behind.Given as goal
-
-abbrev pub decreases-node_behind : goal.decreases-node_behind
-decreases-node_behind l = l.count

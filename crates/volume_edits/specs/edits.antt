@@ -1,0 +1,5 @@
+pub mod After
+pub mod Changed
+pub mod Planned
+pub mod Whole
+pub mod lemma

@@ -1,7 +1,0 @@
-use Rattle.std.proofs.Common.{◌≡◌, take}
-use Rattle.std.specs.Prelude.{flat_map}
-use Rattle.volume_keeper.specs.lemma.Rebuilt.{nodes_said}
-use Rattle.volume_keeper.proofs.rebuild.all_loaded.Given as goal
-
-abbrev pub invariant-loop-row : goal.invariant-loop-row
-invariant-loop-row l = l.nodes.items ≡ flat_map nodes_said (take l.row-index l.rows)

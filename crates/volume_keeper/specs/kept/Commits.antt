@@ -1,0 +1,19 @@
+-- What becomes of a volume and its keeper where a plan is committed (this profile).
+use Rattle.std.specs.Prelude.{◌≡◌, ◌==◌, false, length, Result, Ok, Err}
+use Rattle.record_keeper.specs.declared.keeper.KeeperFault.{KeeperFault}
+use Rattle.record_keeper.specs.declared.keeper.KeeperFault.TheVariants as keeper
+use Rattle.volume_spec.specs.Edit.{after_call}
+use Rattle.volume_edits.specs.edits.Planned.{PlanValue, edits_of}
+use Rattle.volume_keeper.specs.kept.Changing.{FailsIn}
+use Rattle.volume_keeper.specs.kept.Kept.{KeptState}
+
+-- a plan that has edits
+abbrev pub HasEdits : PlanValue → Type 0
+HasEdits plan = (length plan.edits == 0) ≡ false
+
+-- A plan that is committed: the volume is the one behind it, which the keeper holds; or the keeper failed, or there is no memory, and the volume is as
+-- before. A plan of no edits asks no keeper and wants no memory, so it is done.
+abbrev pub Commits : KeptState → PlanValue → Result (Unit {0}) KeeperFault → KeptState → Type 0
+Commits old plan (Ok done) new = new ≡ record old { state = after_call old.state plan.moment (edits_of plan.edits) }
+Commits old plan (Err keeper.Failed) new = HasEdits plan × FailsIn old new × (new.settles ≡ old.settles)
+Commits old plan (Err keeper.Memory) new = HasEdits plan × (new ≡ old)

@@ -1,6 +1,0 @@
-mod Telling
-mod Loads
-mod Files
-mod GivenForks
-mod WrittenBytes
-mod Lines

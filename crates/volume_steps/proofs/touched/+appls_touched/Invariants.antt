@@ -1,4 +1,0 @@
-use Rattle.volume_steps.proofs.touched.+appls_touched.Given as goal
-
-abbrev pub decreases-appls_touched : goal.decreases-appls_touched
-decreases-appls_touched l = l.count

@@ -1,4 +1,0 @@
-use Rattle.volume_steps.proofs.touched.+comments_touched.Given as goal
-
-abbrev pub decreases-comments_touched : goal.decreases-comments_touched
-decreases-comments_touched l = l.count

@@ -1,4 +1,0 @@
-use Rattle.volume_steps.proofs.touched.+forks_touched.Given as goal
-
-abbrev pub decreases-forks_touched : goal.decreases-forks_touched
-decreases-forks_touched l = l.count

@@ -1,4 +1,0 @@
-use Rattle.volume_steps.proofs.touched.+icons_touched.Given as goal
-
-abbrev pub decreases-icons_touched : goal.decreases-icons_touched
-decreases-icons_touched l = l.count

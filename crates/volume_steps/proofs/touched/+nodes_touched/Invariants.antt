@@ -1,4 +1,0 @@
-use Rattle.volume_steps.proofs.touched.+nodes_touched.Given as goal
-
-abbrev pub decreases-nodes_touched : goal.decreases-nodes_touched
-decreases-nodes_touched l = l.count
