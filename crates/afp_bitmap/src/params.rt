@@ -14,6 +14,7 @@ use crate::file::{FileValues, put_file, read_file};
 use crate::volume::{VolumeValues, put_volume, read_volume};
 use afp_base::{Bytes, OutOfMemory};
 use std::alloc::Global;
+use thiserror::Error;
 
 /// What is told of a volume, a file or a directory.
 #[derive(Drop)]
@@ -24,10 +25,12 @@ pub enum Values {
 }
 
 /// Why bytes could not be read.
-#[derive(Clone, Copy, Debug, PartialEq, Eq)]
+#[derive(Clone, Copy, Debug, PartialEq, Eq, Error)]
 pub enum ParamFault {
     /// From the place `at` on, in bytes from the first, they are no block.
+    #[error("no block of parameters from byte {at} on")]
     Bad { at: usize },
+    #[error("out of memory")]
     Memory,
 }
 

@@ -1,5 +1,5 @@
-//! The requests of the Apple Filing Protocol: which there are, and which bytes spell them (AFP Reference, "AFP Calls"). They are defined here; the crates above read and write them.
-//! The words that requests are made of: each is taken from the front of a block, and put at its end.
+//! The requests of the Apple Filing Protocol: which there are, and which bytes spell them (AFP Reference, "AFP Calls"); and the
+//! words that they are made of, each taken from the front of a block and put at its end.
 #![tactic(auto)]
 
 pub mod fields;

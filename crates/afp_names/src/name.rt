@@ -12,18 +12,24 @@ use afp_base::{Bytes, OutOfMemory};
 use caseless::default_case_fold_str;
 use std::alloc::Global;
 use std::marker::Model;
+use thiserror::Error;
 use unicode_normalization::to_nfd;
 
 /// The most bytes of a name.
 pub const LONGEST_NAME: usize = 255;
 
 /// Why bytes are no name. `Memory`: there is no memory, which comes for no other reason.
-#[derive(Clone, Copy, Debug, PartialEq, Eq)]
+#[derive(Clone, Copy, Debug, PartialEq, Eq, Error)]
 pub enum NameFault {
+    #[error("the name is empty")]
     Empty,
+    #[error("the name is too long")]
     TooLong,
+    #[error("the name holds a NUL")]
     HasNul,
+    #[error("the name is not UTF-8")]
     NotUtf8,
+    #[error("out of memory")]
     Memory,
 }
 

@@ -9,6 +9,7 @@ use crate::name::{Name, NameFault};
 use afp_base::OutOfMemory;
 use std::alloc::Global;
 use std::marker::Model;
+use thiserror::Error;
 
 /// The kind of a path whose elements are long names, in bytes of [`crate::mac_roman`].
 pub const LONG_NAMES: u8 = 2;
@@ -37,10 +38,13 @@ pub enum Step {
 
 /// Why bytes are no path: their kind is none, or an element is no name. `Memory`: there is no
 /// memory, which comes for no other reason.
-#[derive(Clone, Copy, Debug, PartialEq, Eq)]
+#[derive(Clone, Copy, Debug, PartialEq, Eq, Error)]
 pub enum PathFault {
+    #[error("the kind of the path is neither long names nor UTF-8 names")]
     Kind,
+    #[error("an element of the path is no name")]
     Element,
+    #[error("out of memory")]
     Memory,
 }
 

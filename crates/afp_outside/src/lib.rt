@@ -1,5 +1,6 @@
-//! What server and client meet outside of them: links to their peers, doors through which they come, dialers, sources of bytes, sinks for reports, and clocks, each as a trait, with one in memory and one over the real thing; and gates.
-//! Lines of a source: each ends with a newline, and the last may end with the source.
+//! What server and client meet outside of them: links to their peers, doors through which they come, dialers, sources of bytes,
+//! sinks for reports, clocks and gates, each as a trait, with one in memory and one over the real thing; whole writes; the lines
+//! of a source.
 #![tactic(auto)]
 
 mod ends;

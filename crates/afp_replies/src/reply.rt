@@ -3,6 +3,7 @@ use crate::list::ListRows;
 use crate::volumes::VolumeList;
 use afp_base::{Bytes, ForkRef, NodeId, OutOfMemory};
 use afp_bitmap::Values;
+use thiserror::Error;
 
 /// The reply to a request (AFP Reference, "AFP Calls").
 #[derive(Drop)]
@@ -124,10 +125,12 @@ pub struct ReplyKind {
 }
 
 /// Why bytes could not be read.
-#[derive(Clone, Copy, PartialEq, Eq)]
+#[derive(Clone, Copy, Debug, PartialEq, Eq, Error)]
 pub enum ReplyFault {
     /// At the place `at`, in bytes from the first, they stop being such a reply.
+    #[error("no such reply from byte {at} on")]
     Bad { at: usize },
+    #[error("out of memory")]
     Memory,
 }
 

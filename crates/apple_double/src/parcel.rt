@@ -5,6 +5,7 @@ ghost use Rattle.apple_double.specs.declared.parcel.ParcelFault.TheVariants.{Mem
 
 use afp_base::{Bytes, OutOfMemory};
 use afp_names::Name;
+use thiserror::Error;
 
 /// AppleSingle: the whole file. AppleDouble: a header file, whose data fork stands in a file of its own.
 #[derive(Clone, Copy, Debug, PartialEq, Eq)]
@@ -29,18 +30,23 @@ pub struct Parcel {
 }
 
 /// Why bytes are no parcel: the first that holds, in the order of the fields.
-#[derive(Clone, Copy, Debug, PartialEq, Eq)]
+#[derive(Clone, Copy, Debug, PartialEq, Eq, Error)]
 pub enum ParcelFault {
     /// The field of the header or of a descriptor that begins at `at`, in bytes from the first, is not all there.
+    #[error("the field that begins at byte {at} is not all there")]
     Short { at: usize },
     /// They begin with neither magic number.
+    #[error("the bytes begin with no magic number of AppleSingle or AppleDouble")]
     Magic,
     /// Their version is another than 2.
+    #[error("the version is not 2")]
     Version,
     /// The entry with this index, from 0, is one of those that are read, and its id stands earlier, it passes the end of the bytes, it is
     /// dates of fewer than 16 or Finder's information of fewer than 32 bytes, or it is a name that is none.
+    #[error("the entry at index {index} is bad")]
     Entry { index: usize },
     /// There is no memory.
+    #[error("out of memory")]
     Memory,
 }
 

@@ -1,10 +1,13 @@
 //! Why nothing was put into a desktop database.
 use afp_base::OutOfMemory;
+use thiserror::Error;
 
 /// Why an icon or a mapping was not put: the limit of a volume is reached (AFP Reference, DiskFull), or there is no memory.
-#[derive(Clone, Copy, Debug, PartialEq, Eq)]
+#[derive(Clone, Copy, Debug, PartialEq, Eq, Error)]
 pub enum DeskFault {
+    #[error("the desktop database is full")]
     Full,
+    #[error("out of memory")]
     Memory,
 }
 

@@ -6,6 +6,8 @@ ghost use Rattle.dsi_frame.specs.lemma.GoodHeader.{AreNumbers, IsGoodHeader};
 
 use afp_base::{Bytes, MAX_PAYLOAD, OutOfMemory, Scan, Short};
 use byteorder::{BigEndian, ByteOrder};
+use std::fmt;
+use thiserror::Error;
 
 /// What a frame asks (AFP over TCP, "DSI commands").
 #[derive(Clone, Copy, Debug, PartialEq, Eq)]
@@ -43,8 +45,22 @@ pub enum Reason {
     Phase,
 }
 
+impl fmt::Display for Reason {
+    fn fmt<W: fmt::Write>(&self, f: &mut fmt::Formatter<W>) -> fmt::Result {
+        f.write_str(match self {
+            Reason::Flags => "its flags are above 1",
+            Reason::Command => "its command is not listed",
+            Reason::Length => "its payload is too long",
+            Reason::Offset => "its offset is above its length",
+            Reason::Unexpected => "it may not come",
+            Reason::Phase => "it comes in the wrong phase of its link",
+        })
+    }
+}
+
 /// A bad frame: the place of its first byte in the stream, and why it is bad.
-#[derive(Clone, Copy, Debug, PartialEq, Eq)]
+#[derive(Clone, Copy, Debug, PartialEq, Eq, Error)]
+#[error("bad frame at byte {at}: {reason}")]
 pub struct BadFrame {
     pub at: u64,
     pub reason: Reason,

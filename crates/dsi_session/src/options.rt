@@ -7,6 +7,7 @@ ghost use Rattle.dsi_session.specs.lemma.Next.{IsNext, HasNoNext};
 use afp_base::{REPLAY_CACHE_SIZE, Scan, Short};
 use byteorder::{BigEndian, ByteOrder};
 use std::marker::Model;
+use thiserror::Error;
 
 /// The type of the option that tells the most bytes of a request that the server takes.
 const REQUEST_QUANTUM_TYPE: u8 = 0;
@@ -34,7 +35,8 @@ pub struct OpenOptions {
 }
 
 /// An option does not fit in its payload: the place of its type, in bytes from the first.
-#[derive(Clone, Copy, Debug, PartialEq, Eq)]
+#[derive(Clone, Copy, Debug, PartialEq, Eq, Error)]
+#[error("the option at byte {at} does not fit into its payload")]
 pub struct BadOptions {
     pub at: usize,
 }

@@ -2,6 +2,7 @@
 
 use afp_base::SessionNumber;
 use deny_modes::{ForkKey, Mode};
+use thiserror::Error;
 
 /// An open fork: the session that opened it, the fork, and what the open may do and denies to others.
 #[derive(Clone, Copy)]
@@ -12,9 +13,12 @@ pub struct OpenFork {
 }
 
 /// Why a fork is not opened: it would conflict with another open, the session has 256 forks open, or there is no memory.
-#[derive(Clone, Copy, PartialEq, Eq)]
+#[derive(Clone, Copy, Debug, PartialEq, Eq, Error)]
 pub enum OpenFault {
+    #[error("another open denies it")]
     Deny,
+    #[error("the session has as many forks open as it may")]
     TooMany,
+    #[error("out of memory")]
     Memory,
 }

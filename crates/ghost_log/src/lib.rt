@@ -1,5 +1,4 @@
-//! A list that only proofs read.
-//! A list that only proofs read, of values that they name.
+//! Lists that only proofs read, and that take no memory: `Log` of values of a type, `Notes` of values that a proof names.
 #![tactic(auto)]
 
 mod log;

@@ -4,6 +4,7 @@ ghost use Rattle.std.specs.Prelude.{◌≡◌, false, IfOk};
 use afp_base::Bytes;
 use record_keeper::{Change, Keeper, KeeperFault, MemoryKeeper, RecordKey};
 use std::alloc::Global;
+use thiserror::Error;
 
 /// Would keep its records in a file; no value is made, since no file is opened. It has a keeper in memory, so that its calls mean something.
 #[derive(Drop)]
@@ -12,11 +13,13 @@ pub struct FileKeeper {
 }
 
 /// Why a file is not taken.
-#[derive(Debug, Drop)]
+#[derive(Debug, Drop, Error)]
 pub enum OpenFault {
     /// Nothing is kept in files. The text tells a person so.
+    #[error("{0}")]
     File(&'static str),
     /// No open answers it.
+    #[error("{0}")]
     Start(&'static str),
 }
 

@@ -23,6 +23,7 @@ use indexmap::IndexMap;
 use replay_cache::{Answer, Cache, Request};
 use std::alloc::Global;
 use std::marker::Model;
+use thiserror::Error;
 
 /// The most sessions, attached and detached together.
 const MOST_SESSIONS: usize = 64;
@@ -31,9 +32,11 @@ const MOST_SESSIONS: usize = 64;
 const DETACHED_TIME: u32 = 600;
 
 /// Why no session was opened: there are as many as there may be, or there is no memory.
-#[derive(Clone, Copy, Debug, PartialEq, Eq)]
+#[derive(Clone, Copy, Debug, PartialEq, Eq, Error)]
 pub enum SessionFault {
+    #[error("there are as many sessions as there may be")]
     Full,
+    #[error("out of memory")]
     Memory,
 }
 

@@ -17,6 +17,7 @@ use sqlite_keeper::counted;
 use std::alloc::Global;
 use std::collections::VecDeque;
 use std::marker::Model;
+use thiserror::Error;
 
 /// Keeps its records in the table `records` of a database, and tells them: they are the rows of the table, as long as the
 /// database is open. A fault of its disk shuts it, and it may do so unseen; from then on the keeper tells none.
@@ -47,15 +48,19 @@ impl<S: Alter + Drop> Model for DurableKeeper<S> {
 }
 
 /// Why a keeper does not start over a database.
-#[derive(Clone, Copy, Debug, PartialEq, Eq)]
+#[derive(Clone, Copy, Debug, PartialEq, Eq, Error)]
 pub enum StartFault {
     /// A transaction is open in it.
+    #[error("a transaction is open in the database")]
     InTransaction,
     /// It has another table, another index or a view, or the table of the records with other columns.
+    #[error("the database has other tables")]
     OtherTables,
     /// The table of the records could not be made.
+    #[error("the table of the records could not be made")]
     Failed,
     /// There is no memory.
+    #[error("out of memory")]
     Memory,
 }
 

@@ -8,6 +8,7 @@ use record_keeper::{Change, Keeper, KeeperFault, RecordKey};
 use sqlite::{Connection, Error, ErrorCode, File, FileStore};
 use sqlite_durable::{DurableKeeper, StartFault};
 use std::alloc::Global;
+use thiserror::Error;
 
 /// Keeps its records in a database file. It tells them as the keeper does that it is made of.
 #[derive(Drop)]
@@ -16,11 +17,13 @@ pub struct FileKeeper {
 }
 
 /// Why a file is not taken.
-#[derive(Debug, Drop)]
+#[derive(Debug, Drop, Error)]
 pub enum OpenFault {
     /// It is not opened: it cannot be read or written, it is no database, or another has it open.
+    #[error("{0}")]
     File(Error),
     /// It is a database in which no keeper starts.
+    #[error("{0}")]
     Start(StartFault),
 }
 

@@ -1,6 +1,8 @@
 //! What the records of a volume say.
 use afp_base::Bytes;
+use std::fmt;
 use std::marker::Model;
+use thiserror::Error;
 
 /// The version of a volume's records, its dates, in seconds from 2000-01-01 00:00 GMT, and the next id that it draws (17 to 2^32, where the ids have ended).
 #[derive(Drop)]
@@ -128,8 +130,21 @@ pub enum Reason {
     Limit,
 }
 
+impl fmt::Display for Reason {
+    fn fmt<W: fmt::Write>(&self, f: &mut fmt::Formatter<W>) -> fmt::Result {
+        f.write_str(match self {
+            Reason::Shape => "it is none of a volume's",
+            Reason::Parent => "its node, or the way to the root, is missing",
+            Reason::Twin => "another node has that place and name",
+            Reason::Range => "an id or a block lies outside",
+            Reason::Limit => "there is one too many",
+        })
+    }
+}
+
 /// The key of a record that is refused, and why.
-#[derive(Drop)]
+#[derive(Debug, Drop, Error)]
+#[error("the record with key {key} is refused: {reason}")]
 pub struct BadRecord {
     pub key: Bytes,
     pub reason: Reason,

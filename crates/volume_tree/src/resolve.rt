@@ -8,11 +8,14 @@ use crate::volume::{ROOT_PARENT, Volume};
 use afp_base::{Code, NodeId, OutOfMemory};
 use afp_names::{LONG_NAMES, LONGEST_NAME, Name, Path, Step};
 use std::alloc::Global;
+use thiserror::Error;
 
 /// Why a call is refused, or that there was no memory.
-#[derive(Clone, Copy, Debug, PartialEq, Eq)]
+#[derive(Clone, Copy, Debug, PartialEq, Eq, Error)]
 pub enum PlanFault {
+    #[error("refused: {0}")]
     Code(Code),
+    #[error("out of memory")]
     Memory,
 }
 

@@ -2,6 +2,7 @@
 use crate::grammar::piece::Piece;
 use afp_base::{Bytes, ForkRef, NodeId, OutOfMemory, VolumeId};
 use afp_names::Path;
+use thiserror::Error;
 
 /// A request (AFP Reference, "AFP Calls"). Numbers and bytes are as they stand in the block. Spelt
 /// are only: a `function` of 1 to 4; FPGetSessionToken's `kind` of 0 to 4, with a `stamp` exactly
@@ -326,10 +327,13 @@ pub enum Call<'a> {
 /// Why a block is no request. `NotSupported`: its first byte is no command. `Param`: it is empty, or
 /// it and what came with it spell no request of its command. `Memory`: there is no memory, which
 /// comes for no other reason.
-#[derive(Clone, Copy, Debug, PartialEq, Eq)]
+#[derive(Clone, Copy, Debug, PartialEq, Eq, Error)]
 pub enum ReadFault {
+    #[error("the command is none of the protocol")]
     NotSupported,
+    #[error("the request is not spelt as its command wants")]
     Param,
+    #[error("out of memory")]
     Memory,
 }
 

@@ -1,13 +1,16 @@
 //! Who dials links to a peer.
 
 use crate::ends::link::Link;
+use thiserror::Error;
 
 /// Why no link was dialled.
-#[derive(Clone, Copy, Debug, PartialEq, Eq)]
+#[derive(Clone, Copy, Debug, PartialEq, Eq, Error)]
 pub enum DialFault {
     /// The dial failed.
+    #[error("the dial failed")]
     Failed,
     /// There was no memory.
+    #[error("out of memory")]
     Memory,
 }
 

@@ -17,13 +17,16 @@ use crate::words::users::{UserWord, users_of};
 use clap::error::ErrorKind;
 use clap::{ArgMatches, Error};
 use std::alloc::Global;
+use thiserror::Error;
 
 /// Why the words say nothing.
-#[derive(Clone, Copy, Debug, PartialEq, Eq)]
+#[derive(Clone, Copy, Debug, PartialEq, Eq, Error)]
 pub enum WordFault {
     /// They are not the words of the command line.
+    #[error("the command line is faulty")]
     Bad,
     /// There was no memory.
+    #[error("out of memory")]
     Memory,
 }
 

@@ -1,6 +1,7 @@
 //! What a line of a script says.
 
 use afp_base::{Bytes, OutOfMemory};
+use thiserror::Error;
 
 /// A line of a script, with its words as they stand in it.
 ///
@@ -99,11 +100,13 @@ pub enum ScriptLine {
 }
 
 /// Why a line was not read.
-#[derive(Clone, Copy, Debug, PartialEq, Eq)]
+#[derive(Clone, Copy, Debug, PartialEq, Eq, Error)]
 pub enum LineFault {
     /// It is no line of a script.
+    #[error("the line has none of the forms")]
     Bad,
     /// There was no memory.
+    #[error("out of memory")]
     Memory,
 }
 

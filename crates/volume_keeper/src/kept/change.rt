@@ -16,17 +16,21 @@ use afp_calls_grammar::Call;
 use deny_modes::VolumeOpens;
 use record_keeper::{Keeper, KeeperFault};
 use std::alloc::Global;
+use thiserror::Error;
 use volume_edits::{Plan, plan_tree_call};
 use volume_tree::PlanFault;
 
 /// Why a call changed nothing.
-#[derive(Clone, Copy, Debug, PartialEq, Eq)]
+#[derive(Clone, Copy, Debug, PartialEq, Eq, Error)]
 pub enum ChangeFault {
     /// It is refused, with this code.
+    #[error("refused: {0}")]
     Refused(Code),
     /// The keeper failed; its count of faults rose.
+    #[error("the keeper failed")]
     Failed,
     /// There is no memory.
+    #[error("out of memory")]
     Memory,
 }
 

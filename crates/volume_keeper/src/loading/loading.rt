@@ -12,18 +12,22 @@ use crate::loading::raise::made_of;
 use afp_base::Moment;
 use record_keeper::{Keeper, ReadAllFault, Record, RecordKey, read_all};
 use std::alloc::Global;
+use thiserror::Error;
 use volume_edits::WholeVolume;
 use volume_keeper_records::laws::{older_records_migrate, records_are_images};
 use volume_keeper_records::{Loaded, Reason, load_records};
 
 /// Why a volume was not loaded.
-#[derive(Drop)]
+#[derive(Debug, Drop, Error)]
 pub enum LoadFault {
     /// The keeper has records, and this is the first key that breaks a rule of a volume of that name, with the first rule.
+    #[error("the record with key {key} is refused: {reason}")]
     BadRecord { key: RecordKey, reason: Reason },
     /// The keeper failed.
+    #[error("the keeper failed")]
     Failed,
     /// There is no memory.
+    #[error("out of memory")]
     Memory,
 }
 
