@@ -1,5 +1,5 @@
-//! The keepers of a server's volumes: each volume is loaded from its keeper at the start, and settled at the end.
-//! The core: one turn of the serial file server, over a world in memory.
+//! The core of the file server: its volumes are loaded from their keepers, each turn answers one
+//! event over a world in memory, and at the end each volume is settled.
 #![tactic(auto)]
 
 mod keepers;

@@ -1,5 +1,5 @@
-//! Links served over any teller: frames come in by reads, or as pieces, and their replies go out.
-//! All links of a door, served one after the other over any teller.
+//! The server's end of links, over whoever answers calls: frames come in, replies go out, on one
+//! link or on all links of a door, one after the other.
 #![tactic(auto)]
 
 mod doors;

@@ -1,6 +1,5 @@
-//! The tool's client: the words of its command line, and a run of it.
-//! A teller for captures: over a core whose keepers nobody has used, and which stores no history.
-//! The tool: a client's scripts, captures, drills, streams of frames and parcels.
+//! The tool as a library: a client's scripts, captures, drills, streams of frames and AppleSingle
+//! files.
 #![tactic(auto)]
 
 pub mod client;

@@ -1,5 +1,4 @@
-//! The lines of a capture: the forms that they have, and what each says.
-//! The lines of a made capture.
+//! The lines of a capture: the forms that they have, what each says, and those of a made capture.
 #![tactic(auto)]
 
 mod log;

@@ -1,5 +1,5 @@
-//! The requests of a made capture: three connections are opened, and steps are drawn by a number.
-//! Captures that are made by number: written to a sink, or counted.
+//! Captures that are made by a number: three connections are opened, and steps are drawn. They are
+//! written to a sink, or counted.
 #![tactic(auto)]
 
 mod made;

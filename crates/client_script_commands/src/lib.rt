@@ -1,8 +1,5 @@
-//! What the commands of a client's script ask, and whoever asks it.
-//! The commands of a client's script, over whoever asks their calls.
-//! `get` of a client's script, and reads of a fork until its end, over whoever asks its calls.
-//! `ls` of a client's script, over whoever asks its calls.
-//! `pack` and `unpack` of a client's script: a file with both its forks as one AppleSingle file, over whoever asks their calls.
+//! The commands of a client's script, over whoever asks their calls: `ls`, `get`, `put`, `pack`,
+//! `unpack` and the others.
 #![tactic(auto)]
 
 pub mod commands;

@@ -1,6 +1,5 @@
-//! Scripts of a client: the lines that they have.
-//! The texts that a client's script prints.
-//! The requests that the commands of a client's script ask.
+//! Scripts of a client: the lines that they have, the requests that their commands ask, and the
+//! texts that they print.
 #![tactic(auto)]
 
 mod calls;

@@ -1,6 +1,5 @@
-//! A line of a client's script, carried out over whoever asks its calls.
-//! Whoever asks the calls of a script over a client's links.
-//! A client that carries out a script.
+//! A client that carries out a script, line after line, over links that it opens anew after a
+//! break.
 #![tactic(auto)]
 
 mod asker;

@@ -1,5 +1,5 @@
-//! Each command of a client has its effect once and in order, over every schedule of breaks and rejoinings.
-//! A client's calls over links that break are told what they are told where no link breaks.
+//! However often a client's link breaks, each command takes effect once and in order, and each call
+//! is told what it is told where no link breaks: laws over events alone, with no code in them.
 #![tactic(auto)]
 
 pub mod once;

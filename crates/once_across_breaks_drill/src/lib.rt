@@ -1,5 +1,3 @@
-//! Drills: a client whose links break as numbers are drawn.
-//! Rounds between a client and a server that it is alone at: whole requests go to the server end of a link, and whole replies come back.
 //! Drills: a client whose links break as numbers are drawn, over a server in memory.
 #![tactic(auto)]
 

@@ -1,5 +1,5 @@
-//! What programs have in common that run over lines: they take each line of their standard input, its words and numbers, and print what comes of it.
-//! What programs have in common that try cases.  Each line of the standard input is a case: its kind, what is given, and behind ` -> ` what is wanted. Bytes are hexadecimal digits, `-` where there are none; parts of them are joined by `+`, and `*` with a number repeats a part. A line of which the result is another is printed with its number; at the end it prints how many cases there were of each kind.
+//! What programs have in common that run over lines of the standard input: they take words and
+//! numbers, try cases, and print what comes of it.
 #![tactic(auto)]
 
 pub mod cases;

@@ -1,5 +1,4 @@
-//! The records that differ between a volume as it is and as it will be.
-//! What a plan of a volume changes in its records.
+//! The records that differ between a volume as it is and as a plan leaves it: what a commit writes.
 #![tactic(auto)]
 
 pub mod records;

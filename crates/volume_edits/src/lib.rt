@@ -1,5 +1,5 @@
-//! A volume with its desktop database, and edits of it: one after the other they are what a call does.
-//! The plans of calls that change a volume: why a call is refused, or its edits, all that carrying them out takes memory for included.
+//! Edits of a volume and its desktop database, and the plan of each call that changes a volume: why
+//! it is refused, or the edits that one after the other are what the call does.
 #![tactic(auto)]
 
 pub mod edits;

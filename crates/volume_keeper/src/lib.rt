@@ -1,6 +1,5 @@
-//! A volume with its desktop database, loaded from a keeper of records.
-//! A volume beside the keeper of its records: what changes the volume is committed to the keeper first.
-//! What a volume tells: the bytes of its parameters, of a node's parameters and of lists, as the serial file server tells them.
+//! A volume beside the keeper of its records: it is loaded from them, what changes it is committed
+//! to the keeper first, and its parameters and lists are told from it.
 #![tactic(auto)]
 
 pub mod kept;
