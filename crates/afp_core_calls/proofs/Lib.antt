@@ -1,5 +1,7 @@
-pub mod OfVolumes
-pub mod OfForks
-pub mod OfBytes
+pub mod OfTree
+pub mod OfSession
+pub mod OfVolume
+pub mod OfDirectory
+pub mod OfFile
+pub mod OfFork
 pub mod OfDesktop
-pub mod OfFiles

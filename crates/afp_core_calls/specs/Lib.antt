@@ -1,5 +1,6 @@
-pub mod volumes
-pub mod forks
-pub mod bytes
+pub mod volume
+pub mod directory
+pub mod file
+pub mod fork
 pub mod desktop
-pub mod files
+pub mod lemma

@@ -1,4 +1,4 @@
-//! The rows of calls on the desktop databases of volumes: icons, APPL mappings and comments.
+//! The rows of the calls about the desktop database (AFP Reference, "Desktop Database Commands").
 
 pub mod appls;
 pub mod comments;

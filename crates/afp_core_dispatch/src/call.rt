@@ -13,40 +13,20 @@ ghost use Rattle.afp_core_dispatch.specs.lemma.Keeping.{IsThere, IsToldAgain, Ru
 ghost use Rattle.afp_core_dispatch.specs.lemma.Requests.{as_request};
 
 use crate::keeping::{keep, put_kept};
-use crate::login::{login, login_ext};
-use crate::logout::logout;
 use crate::request::Request;
-use crate::server::{get_srvr_info, get_srvr_msg, get_srvr_parms};
-use crate::session_token::{disconnect_old_session, get_session_token};
 use crate::spelling::{Stop, spelled_call};
-use crate::user_calls::{get_user_info, map_id, map_name};
 use afp_base::{LinkNumber, OutOfMemory, SessionNumber};
 use afp_calls::Call;
-use afp_core_calls::bytes::byte_range_lock::{byte_range_lock, byte_range_lock_ext};
-use afp_core_calls::bytes::read::{read, read_ext};
-use afp_core_calls::bytes::write::{write, write_ext};
-use afp_core_calls::desktop::appls::{add_appl, get_appl, remove_appl};
-use afp_core_calls::desktop::comments::{add_comment, get_comment, remove_comment};
-use afp_core_calls::desktop::icons::{add_icon, get_icon, get_icon_info};
-use afp_core_calls::desktop::open_dt::{close_dt, open_dt};
-use afp_core_calls::files::copy_file::copy_file;
-use afp_core_calls::files::exchange_files::exchange_files;
-use afp_core_calls::files::file_ids::{create_id, delete_id, resolve_id};
-use afp_core_calls::forks::close_fork::close_fork;
-use afp_core_calls::forks::flush_fork::flush_fork;
-use afp_core_calls::forks::get_fork_parms::get_fork_parms;
-use afp_core_calls::forks::open_fork::open_fork;
-use afp_core_calls::forks::set_fork_parms::set_fork_parms;
-use afp_core_calls::volumes::close_vol::close_vol;
-use afp_core_calls::volumes::create_dir::create_dir;
-use afp_core_calls::volumes::enumerate::{enumerate, enumerate_ext, enumerate_ext2};
-use afp_core_calls::volumes::flush::flush;
-use afp_core_calls::volumes::get_file_dir_parms::get_file_dir_parms;
-use afp_core_calls::volumes::get_vol_parms::get_vol_parms;
-use afp_core_calls::volumes::open_dir::{close_dir, open_dir};
-use afp_core_calls::volumes::open_vol::open_vol;
-use afp_core_calls::volumes::set_dir_parms::set_dir_parms;
-use afp_core_calls::volumes::tree_changes::change_alone;
+use afp_core_calls::{
+    add_appl, add_comment, add_icon, byte_range_lock, byte_range_lock_ext, close_dir, close_dt,
+    close_fork, close_vol, copy_file, create_dir, create_file, create_id, delete, delete_id,
+    disconnect_old_session, enumerate, enumerate_ext, enumerate_ext2, exchange_files, flush,
+    flush_fork, get_appl, get_comment, get_file_dir_parms, get_fork_parms, get_icon, get_icon_info,
+    get_session_token, get_srvr_info, get_srvr_msg, get_srvr_parms, get_user_info, get_vol_parms,
+    login, login_ext, logout, map_id, map_name, move_and_rename, open_dir, open_dt, open_fork,
+    open_vol, read, read_ext, remove_appl, remove_comment, rename, resolve_id, set_dir_parms,
+    set_file_dir_parms, set_file_parms, set_fork_parms, set_vol_parms, write, write_ext,
+};
 use afp_core_state::{State, refused};
 use afp_serial::{Answered, Outcome, Told, put_told};
 use record_keeper::Keeper;
@@ -159,11 +139,60 @@ fn row<K: Keeper>(
     ensures { RunsRow state.old session.0 call.now result state.new }
 {
     match call {
-        Call::CloseDir { volume, dir } => close_dir(state, session, *volume, *dir),
+        // The session.
+        Call::Login { version, uam, tail } => {
+            Ok((
+                login(
+                    state,
+                    session,
+                    version.as_slice(),
+                    uam.as_slice(),
+                    tail.as_slice(),
+                ),
+                Outcome::Done,
+            ))
+        }
+        Call::LoginExt {
+            version,
+            uam,
+            name,
+            tail,
+            ..
+        } => {
+            Ok((
+                login_ext(
+                    state,
+                    session,
+                    version.as_slice(),
+                    uam.as_slice(),
+                    name.as_slice(),
+                    tail.as_slice(),
+                ),
+                Outcome::Done,
+            ))
+        }
+        Call::Logout => Ok((logout(state, session), Outcome::Done)),
+        Call::GetSessionToken { .. } => get_session_token(state, session),
+        Call::DisconnectOldSession { token, .. } => Ok((
+            disconnect_old_session(state, session, token.as_slice()),
+            Outcome::Done,
+        )),
+        Call::GetSrvrInfo => get_srvr_info(state),
+        Call::GetSrvrParms => get_srvr_parms(state),
+        Call::GetSrvrMsg { kind, bits } => get_srvr_msg(state, *kind, *bits),
+        Call::GetUserInfo { flag, id, bits } => get_user_info(state, session, *flag, *id, *bits),
+        Call::MapID { function, id } => map_id(state, *function, *id),
+        Call::MapName { function, name } => map_name(state, *function, name.as_slice()),
+        // Volumes.
+        Call::OpenVol { bits, name } => open_vol(state, session, *bits, name.as_slice()),
         Call::CloseVol { volume } => close_vol(state, session, *volume),
+        Call::GetVolParms { volume, bits } => get_vol_parms(state, session, *volume, *bits),
+        Call::SetVolParms { volume, .. } => set_vol_parms(state, session, *volume, call),
+        Call::Flush { volume } => flush(state, session, *volume),
+        // Directories, and files and directories alike.
         Call::CreateDir { volume, .. } => create_dir(state, session, *volume, call),
-        Call::CreateFile { volume, .. } => change_alone(state, session, *volume, call),
-        Call::Delete { volume, .. } => change_alone(state, session, *volume, call),
+        Call::OpenDir { volume, dir, path } => open_dir(state, session, *volume, *dir, path),
+        Call::CloseDir { volume, dir } => close_dir(state, session, *volume, *dir),
         Call::Enumerate {
             volume,
             dir,
@@ -200,7 +229,12 @@ fn row<K: Keeper>(
         } => enumerate_ext2(
             state, session, *volume, *dir, *file_bits, *dir_bits, *count, *start, *size, path,
         ),
-        Call::Flush { volume } => flush(state, session, *volume),
+        Call::SetDirParms {
+            volume,
+            bits,
+            tail,
+            ..
+        } => set_dir_parms(state, session, *volume, *bits, tail.as_slice(), call),
         Call::GetFileDirParms {
             volume,
             dir,
@@ -208,78 +242,51 @@ fn row<K: Keeper>(
             dir_bits,
             path,
         } => get_file_dir_parms(state, session, *volume, *dir, *file_bits, *dir_bits, path),
-        Call::GetVolParms { volume, bits } => get_vol_parms(state, session, *volume, *bits),
-        Call::Login { version, uam, tail } => {
-            Ok((
-                login(
-                    state,
-                    session,
-                    version.as_slice(),
-                    uam.as_slice(),
-                    tail.as_slice(),
-                ),
-                Outcome::Done,
-            ))
-        }
-        Call::LoginExt {
-            version,
-            uam,
-            name,
-            tail,
-            ..
-        } => {
-            Ok((
-                login_ext(
-                    state,
-                    session,
-                    version.as_slice(),
-                    uam.as_slice(),
-                    name.as_slice(),
-                    tail.as_slice(),
-                ),
-                Outcome::Done,
-            ))
-        }
-        Call::Logout => Ok((logout(state, session), Outcome::Done)),
-        Call::GetSrvrInfo => get_srvr_info(state),
-        Call::GetSrvrParms => get_srvr_parms(state),
-        Call::GetSrvrMsg { kind, bits } => get_srvr_msg(state, *kind, *bits),
-        Call::GetUserInfo { flag, id, bits } => get_user_info(state, session, *flag, *id, *bits),
-        Call::MapID { function, id } => map_id(state, *function, *id),
-        Call::MapName { function, name } => map_name(state, *function, name.as_slice()),
-        Call::GetSessionToken { .. } => get_session_token(state, session),
-        Call::DisconnectOldSession { token, .. } => Ok((
-            disconnect_old_session(state, session, token.as_slice()),
-            Outcome::Done,
-        )),
-        Call::MoveAndRename { volume, .. } => change_alone(state, session, *volume, call),
-        Call::OpenDir { volume, dir, path } => open_dir(state, session, *volume, *dir, path),
-        Call::OpenVol { bits, name } => open_vol(state, session, *bits, name.as_slice()),
-        Call::Rename { volume, .. } => change_alone(state, session, *volume, call),
-        Call::SetDirParms {
+        Call::SetFileDirParms { volume, .. } => set_file_dir_parms(state, session, *volume, call),
+        Call::Delete { volume, .. } => delete(state, session, *volume, call),
+        Call::Rename { volume, .. } => rename(state, session, *volume, call),
+        Call::MoveAndRename { volume, .. } => move_and_rename(state, session, *volume, call),
+        // Files.
+        Call::CreateFile { volume, .. } => create_file(state, session, *volume, call),
+        Call::CopyFile {
             volume,
-            bits,
-            tail,
-            ..
-        } => set_dir_parms(state, session, *volume, *bits, tail.as_slice(), call),
-        Call::SetFileDirParms { volume, .. } => change_alone(state, session, *volume, call),
-        Call::SetFileParms { volume, .. } => change_alone(state, session, *volume, call),
-        Call::SetVolParms { volume, .. } => change_alone(state, session, *volume, call),
-        Call::ByteRangeLock {
-            flags,
-            reference,
-            offset,
-            length,
-        } => byte_range_lock(state, session, *flags, *reference, *offset, *length),
-        Call::ByteRangeLockExt {
-            flags,
-            reference,
-            offset,
-            length,
-        } => byte_range_lock_ext(state, session, *flags, *reference, *offset, *length),
-        Call::CloseFork { reference } => close_fork(state, session, *reference),
-        Call::FlushFork { reference } => flush_fork(state, session, *reference),
-        Call::GetForkParms { reference, bits } => get_fork_parms(state, session, *reference, *bits),
+            dir,
+            target_volume,
+            target_dir,
+            path,
+            target_path,
+            new_path,
+        } => copy_file(
+            state,
+            session,
+            *volume,
+            *dir,
+            *target_volume,
+            *target_dir,
+            path,
+            target_path,
+            new_path,
+        ),
+        Call::SetFileParms { volume, .. } => set_file_parms(state, session, *volume, call),
+        Call::ExchangeFiles {
+            volume,
+            dir,
+            second_dir,
+            path,
+            second_path,
+        } => exchange_files(
+            state,
+            session,
+            *volume,
+            *dir,
+            *second_dir,
+            path,
+            second_path,
+        ),
+        Call::CreateID { volume, dir, path } => create_id(state, session, *volume, *dir, path),
+        Call::DeleteID { volume, id } => delete_id(state, session, *volume, *id),
+        Call::ResolveID { volume, id, bits } => resolve_id(state, session, *volume, *id, *bits),
+        // Open forks.
         Call::OpenFork {
             flag,
             volume,
@@ -288,6 +295,14 @@ fn row<K: Keeper>(
             mode,
             path,
         } => open_fork(state, session, *flag, *volume, *dir, *bits, *mode, path),
+        Call::CloseFork { reference } => close_fork(state, session, *reference),
+        Call::FlushFork { reference } => flush_fork(state, session, *reference),
+        Call::GetForkParms { reference, bits } => get_fork_parms(state, session, *reference, *bits),
+        Call::SetForkParms {
+            reference,
+            bits,
+            tail,
+        } => set_fork_parms(state, session, *reference, *bits, tail.as_slice()),
         Call::Read {
             reference,
             offset,
@@ -302,11 +317,6 @@ fn row<K: Keeper>(
             offset,
             count,
         } => read_ext(state, session, *reference, *offset, *count),
-        Call::SetForkParms {
-            reference,
-            bits,
-            tail,
-        } => set_fork_parms(state, session, *reference, *bits, tail.as_slice()),
         Call::Write {
             flag,
             reference,
@@ -329,45 +339,39 @@ fn row<K: Keeper>(
             *count,
             piece.as_slice(),
         ),
-        Call::CopyFile {
-            volume,
-            dir,
-            target_volume,
-            target_dir,
-            path,
-            target_path,
-            new_path,
-        } => copy_file(
-            state,
-            session,
-            *volume,
-            *dir,
-            *target_volume,
-            *target_dir,
-            path,
-            target_path,
-            new_path,
-        ),
-        Call::CreateID { volume, dir, path } => create_id(state, session, *volume, *dir, path),
-        Call::DeleteID { volume, id } => delete_id(state, session, *volume, *id),
-        Call::ResolveID { volume, id, bits } => resolve_id(state, session, *volume, *id, *bits),
-        Call::ExchangeFiles {
-            volume,
-            dir,
-            second_dir,
-            path,
-            second_path,
-        } => exchange_files(
-            state,
-            session,
-            *volume,
-            *dir,
-            *second_dir,
-            path,
-            second_path,
-        ),
+        Call::ByteRangeLock {
+            flags,
+            reference,
+            offset,
+            length,
+        } => byte_range_lock(state, session, *flags, *reference, *offset, *length),
+        Call::ByteRangeLockExt {
+            flags,
+            reference,
+            offset,
+            length,
+        } => byte_range_lock_ext(state, session, *flags, *reference, *offset, *length),
+        // The desktop database.
         Call::OpenDT { volume } => open_dt(state, session, *volume),
         Call::CloseDT { dt } => close_dt(state, session, *dt),
+        Call::AddIcon {
+            dt,
+            creator,
+            kind,
+            icon_kind,
+            tag,
+            piece,
+            ..
+        } => add_icon(
+            state,
+            session,
+            *dt,
+            *creator,
+            *kind,
+            *icon_kind,
+            *tag,
+            piece.as_slice(),
+        ),
         Call::GetIcon {
             dt,
             creator,
@@ -405,23 +409,5 @@ fn row<K: Keeper>(
         } => add_comment(state, session, *dt, *dir, path, comment),
         Call::RemoveComment { dt, dir, path } => remove_comment(state, session, *dt, *dir, path),
         Call::GetComment { dt, dir, path } => get_comment(state, session, *dt, *dir, path),
-        Call::AddIcon {
-            dt,
-            creator,
-            kind,
-            icon_kind,
-            tag,
-            piece,
-            ..
-        } => add_icon(
-            state,
-            session,
-            *dt,
-            *creator,
-            *kind,
-            *icon_kind,
-            *tag,
-            piece.as_slice(),
-        ),
     }
 }

@@ -1,6 +1,5 @@
 use Rattle.std.proofs.Common.{◌≡◌, ◌∙◌, ap, of_z, rules, sym, to_z, w32, w64}
 use Rattle.afp_calls_grammar.specs.declared.grammar.call.Call.TheVariants.{AddIcon, DisconnectOldSession, Login, LoginExt, MapName, SetDirParms, SetForkParms, Write, WriteExt}
-use Rattle.afp_core_calls.proofs.OfVolumes.CallRows.{create_file-changes, delete-changes, move_and_rename-changes, rename-changes, set_file_dir_parms-changes, set_file_parms-changes, set_vol_parms-changes}
 use Rattle.afp_core_state.proofs.RowLemmas.{call-as, row-as}
 use Rattle.afp_core_dispatch.proofs.call.row.Goals as goal
 
@@ -73,31 +72,31 @@ returns-in-WriteExt g c =
     let piece = c.as_slice-in-WriteExt.ensures in
     call-as c.args.state.now _ c.args.session.0 _ _ _ (x.is ∙ (λ i. WriteExt x.flag x.reference (sym offset i) (sym count i) (sym piece i))) c.write_ext.ensures
 
-pub change_alone-requires : goal.change_alone-requires
-change_alone-requires g c = let x = c.in-CreateFile in create_file-changes c.args.call.now x.flag x.volume x.dir x.path x.is
+pub create_file-requires : goal.create_file-requires
+create_file-requires g c = let x = c.in-CreateFile in record { flag = x.flag; dir = x.dir; path = x.path; is = x.is }
 
-pub change_alone-requires-in-Delete : goal.change_alone-requires-in-Delete
-change_alone-requires-in-Delete g c = let x = c.in-Delete in delete-changes c.args.call.now x.volume x.dir x.path x.is
+pub delete-requires : goal.delete-requires
+delete-requires g c = let x = c.in-Delete in record { dir = x.dir; path = x.path; is = x.is }
 
-pub change_alone-requires-in-MoveAndRename : goal.change_alone-requires-in-MoveAndRename
-change_alone-requires-in-MoveAndRename g c = let x = c.in-MoveAndRename in move_and_rename-changes c.args.call.now x.volume x.dir x.target_dir x.path x.target_path x.new_path x.is
+pub move_and_rename-requires : goal.move_and_rename-requires
+move_and_rename-requires g c = let x = c.in-MoveAndRename in record { dir = x.dir; target_dir = x.target_dir; path = x.path; target_path = x.target_path; new_path = x.new_path; is = x.is }
 
-pub change_alone-requires-in-Rename : goal.change_alone-requires-in-Rename
-change_alone-requires-in-Rename g c = let x = c.in-Rename in rename-changes c.args.call.now x.volume x.dir x.path x.new_path x.is
+pub rename-requires : goal.rename-requires
+rename-requires g c = let x = c.in-Rename in record { dir = x.dir; path = x.path; new_path = x.new_path; is = x.is }
+
+pub set_file_dir_parms-requires : goal.set_file_dir_parms-requires
+set_file_dir_parms-requires g c = let x = c.in-SetFileDirParms in record { dir = x.dir; bits = x.bits; path = x.path; tail = x.tail; is = x.is }
+
+pub set_file_parms-requires : goal.set_file_parms-requires
+set_file_parms-requires g c = let x = c.in-SetFileParms in record { dir = x.dir; bits = x.bits; path = x.path; tail = x.tail; is = x.is }
+
+pub set_vol_parms-requires : goal.set_vol_parms-requires
+set_vol_parms-requires g c = let x = c.in-SetVolParms in record { bits = x.bits; tail = x.tail; is = x.is }
 
 pub set_dir_parms-requires : goal.set_dir_parms-requires
 set_dir_parms-requires g c =
     let x = c.in-SetDirParms in
     record { dir = x.dir; path = x.path; is = x.is ∙ ap (SetDirParms x.volume x.dir x.bits x.path) (sym c.as_slice-in-SetDirParms.ensures) }
-
-pub change_alone-requires-in-SetFileDirParms : goal.change_alone-requires-in-SetFileDirParms
-change_alone-requires-in-SetFileDirParms g c = let x = c.in-SetFileDirParms in set_file_dir_parms-changes c.args.call.now x.volume x.dir x.bits x.path x.tail x.is
-
-pub change_alone-requires-in-SetFileParms : goal.change_alone-requires-in-SetFileParms
-change_alone-requires-in-SetFileParms g c = let x = c.in-SetFileParms in set_file_parms-changes c.args.call.now x.volume x.dir x.bits x.path x.tail x.is
-
-pub change_alone-requires-in-SetVolParms : goal.change_alone-requires-in-SetVolParms
-change_alone-requires-in-SetVolParms g c = let x = c.in-SetVolParms in set_vol_parms-changes c.args.call.now x.volume x.bits x.tail x.is
 
 pub returns-in-AddIcon : goal.returns-in-AddIcon
 returns-in-AddIcon g c =

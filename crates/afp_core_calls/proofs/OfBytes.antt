@@ -1,3 +1,0 @@
-pub mod ForkBytesLemmas
-pub mod ForkWriteLemmas
-pub mod ForkLockLemmas

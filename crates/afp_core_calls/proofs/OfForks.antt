@@ -1,3 +1,0 @@
-pub mod OnForkLemmas
-pub mod ForkCallRows
-pub mod OpenForkLemmas

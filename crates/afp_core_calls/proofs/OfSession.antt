@@ -1,0 +1,5 @@
+pub mod UserLemmas
+pub mod LoginLemmas
+pub mod TokenLemmas
+pub mod NameLemmas
+pub mod TellingLemmas

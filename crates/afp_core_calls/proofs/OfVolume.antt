@@ -1,0 +1,3 @@
+pub mod CallRows
+pub mod VolumeLemmas
+pub mod FlushRows

@@ -1,4 +1,0 @@
-pub mod OnVolumeRows
-pub mod VolumeLemmas
-pub mod CallRows
-pub mod UserIds

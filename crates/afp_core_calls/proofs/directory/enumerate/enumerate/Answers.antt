@@ -1,0 +1,12 @@
+use Rattle.std.proofs.Common.{refl, sym}
+use Rattle.afp_calls_grammar.specs.declared.grammar.call.Call.TheVariants.{Enumerate}
+use Rattle.volume_spec.specs.Enumerate.{asked_narrow}
+use Rattle.afp_core_calls.proofs.OfDirectory.CallRows.{enumerate-lists}
+use Rattle.afp_core_calls.proofs.directory.enumerate.enumerate.Goals as goal
+
+pub returns : goal.returns
+returns g c =
+    let a = c.args in
+    c.list.ensures (Enumerate a.volume a.dir a.file_bits a.dir_bits a.count a.start a.size a.path.now) (λ user. asked_narrow user a.file_bits a.dir_bits a.count a.start a.size)
+    (enumerate-lists a.volume a.dir a.file_bits a.dir_bits a.count a.start a.size a.path.now) refl c.user.ensures
+    (λ i. asked_narrow c.user.result a.file_bits a.dir_bits a.count (sym c.from.ensures i) (sym c.from-2.ensures i))

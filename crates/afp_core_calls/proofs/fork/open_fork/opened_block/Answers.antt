@@ -1,0 +1,7 @@
+use Rattle.afp_core_calls.proofs.OfFork.ForkCallRows.{opened-bytes}
+use Rattle.afp_core_calls.proofs.fork.open_fork.opened_block.Goals as goal
+
+pub returns : goal.returns
+returns g c = λ v file there found.
+    opened-bytes c.args.bits c.args.reference _ c.in_ok-block.block c.push_u16.new.self c.push_u16-2.new.self c.put_file_params.new.out c.in_ok-block.ensures c.in_ok-push_u16.ensures.ok c.in_ok-push_u16-2.ensures.ok
+    (c.in_ok-put_file_params.ensures.ok v file there found)

@@ -1,0 +1,2 @@
+pub mod DirectoryCalls
+pub mod lemma

@@ -1,0 +1,3 @@
+pub mod OnForkBytes
+pub mod Opening
+pub mod SettingLength

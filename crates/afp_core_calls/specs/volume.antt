@@ -1,0 +1,2 @@
+pub mod VolumeCalls
+pub mod lemma

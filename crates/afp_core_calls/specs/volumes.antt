@@ -1,2 +1,0 @@
-pub mod VolumeRows
-pub mod lemma
