@@ -1,5 +1,4 @@
 pub mod LinkLemmas
-pub mod SendLemmas
 pub mod TellLemmas
 pub mod NextLemmas
 pub mod GoingLemmas

@@ -6,7 +6,6 @@ mod laws;
 mod reply;
 mod requests;
 mod script_laws;
-mod send;
 mod serve;
 mod session;
 mod stage;

@@ -2,5 +2,4 @@ pub mod Failing
 pub mod Faultless
 pub mod HouseEnds
 pub mod OneHouse
-pub mod ReportLemmas
 pub mod RunLaws

@@ -10,4 +10,4 @@ mod users;
 pub use crate::words::explaining::{Explained, explain};
 pub use crate::words::place::{PlaceWord, VolumeWord};
 pub use crate::words::read::{ServerWords, WordFault, read_words};
-pub use crate::words::users::UserWord;
+pub use crate::words::users::{UserWord, user_of};

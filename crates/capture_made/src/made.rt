@@ -3,7 +3,6 @@
 mod adding;
 mod counting;
 mod making;
-mod writing;
 
 pub use crate::made::counting::{Tallied, tally};
 pub use crate::made::making::{MakeEnd, make};

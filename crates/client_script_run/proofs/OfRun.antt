@@ -1,4 +1,3 @@
-pub mod PrintLemmas
 pub mod LineLemmas
 pub mod ScriptLemmas
 pub mod StopLemmas

@@ -1,4 +1,3 @@
-pub mod Printing
 pub mod Ends
 pub mod Script
 pub mod Carried

@@ -103,19 +103,6 @@ impl<S: Alter + Drop> DurableKeeper<S> {
     {
         let _alone = self.connection.is_autocommit();
     }
-
-    /// The database, given back.
-    pub fn into_connection(self) -> Connection<S>
-        ensures { result ≡ self.database }
-    {
-        let DurableKeeper {
-            connection,
-            ahead: _,
-            faults: _,
-            settles: _,
-        } = self;
-        connection
-    }
 }
 
 impl<S: Alter + Drop> Keeper for DurableKeeper<S> {

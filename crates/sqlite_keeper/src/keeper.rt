@@ -34,18 +34,6 @@ impl<S: Alter + Drop> SqliteKeeper<S> {
             settles: Log::new(),
         }
     }
-
-    /// The database, given back.
-    pub fn into_connection(self) -> Connection<S>
-        ensures { result ≡ self.connection }
-    {
-        let SqliteKeeper {
-            connection,
-            faults: _,
-            settles: _,
-        } = self;
-        connection
-    }
 }
 
 /// Counts a refused statement in the keeper's faults, and says what it is to the keeper's caller: want of memory where

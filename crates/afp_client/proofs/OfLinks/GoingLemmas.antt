@@ -2,6 +2,7 @@
 use Rattle.std.proofs.Common.{◌≡◌, ℕ, List, [], Option, Some, None, Bool, true, false, IfSome, refl, ap, sym, subst, ◌∙◌, option_map, length, ◌==◌}
 use Rattle.afp_base.specs.declared.code.Code.{Code}
 use Rattle.afp_outside.specs.ends.Link.{LinkState}
+use Rattle.afp_outside.specs.ends.Whole.{SendsPart}
 use Rattle.dsi_frame.specs.Frame.{Frame}
 use Rattle.dsi_frame.specs.declared.frame.DsiCommand.{DsiCommand}
 use Rattle.dsi_frame.specs.declared.frame.DsiCommand.TheVariants as commands
@@ -16,7 +17,6 @@ use Rattle.afp_client.specs.declared.session.stage.OpeningStep.{OpeningStep}
 use Rattle.afp_client.specs.declared.session.stage.OpeningStep.TheVariants as steps
 use Rattle.afp_client.specs.declared.session.stage.Stage.{Stage}
 use Rattle.afp_client.specs.declared.session.stage.Stage.TheVariants as stages
-use Rattle.afp_client.specs.links.lemma.Sending.{SendsPart}
 use Rattle.afp_client.specs.links.lemma.Coming.{LivesOn, LivesNext, Opening, OpensOn, OpensNext, next_of, opened_next}
 use Rattle.afp_client.specs.declared.links.came.Came.{Came}
 use Rattle.afp_client.specs.declared.links.came.Came.TheVariants as comes

@@ -2,6 +2,7 @@
 use Rattle.std.proofs.Common.{◌≡◌, ℕ, ◌+◌, ◌<◌, Bool, ◌||◌, List, [], ◌∷◌, ◌++◌, take, refl, sym, ap, subst, ◌∙◌, append_assoc, length-append, length-take, arith}
 use Rattle.std.specs.Prelude.{Option, Some, None, IfSome, option_map}
 use Rattle.afp_outside.specs.ends.Link.{Event, piece, quiet, LinkState, ReadsPiece, ReadsQuiet}
+use Rattle.afp_outside.specs.ends.Whole.{Sends, SendsPart}
 use Rattle.afp_calls_grammar.specs.declared.grammar.call.Call.{Call}
 use Rattle.dsi_frame.specs.Frame.{canonical_frame}
 use Rattle.dsi_frame.proofs.StreamLemmas.{spelled_push}
@@ -12,7 +13,6 @@ use Rattle.afp_client.specs.declared.session.event.Event.{Event as ClientEvent}
 use Rattle.afp_client.specs.links.History.{Happening, received, was_quiet, tickled, closes, limited, asks, took, allowed, cost_in, events_in, limits_in, taken_in, to_write, is_reply, tickle_frame, close_session_frame, Leads}
 use Rattle.afp_client.specs.links.OnLink.{Affords, Start, spot, OnLink}
 use Rattle.afp_client.specs.declared.links.talk.Limit.{Limit}
-use Rattle.afp_client.specs.links.lemma.Sending.{Sends}
 
 -- what is told goes on with what happens
 told-more : (o n : Option (List Event)) (more all : List Event) → n ≡ option_map (λ es. es ++ more) o → IfSome o (λ es. es ≡ all) → IfSome n (λ es. es ≡ all ++ more)
@@ -23,11 +23,11 @@ told-same : (o n : Option (List Event)) (all : List Event) → n ≡ o → IfSom
 told-same o n all e h = subst (λ (x : Option (List Event)). IfSome x (λ es. es ≡ all)) (sym e) h
 
 -- a first part of what is to be written was written
-sent-part : (o n : Option (List ℕ)) (wrote rest out all : List ℕ) → n ≡ option_map (λ before. before ++ wrote) o → out ≡ wrote ++ rest
+sent-part : (o n : Option (List ℕ)) (wrote rest out all : List ℕ) → n ≡ option_map (λ before. before ++ wrote) o → wrote ++ rest ≡ out
     → IfSome o (λ w. w ++ out ≡ all) → IfSome n (λ w. w ++ rest ≡ all)
 sent-part None n wrote rest out all e cut h = subst (λ (x : Option (List ℕ)). IfSome x (λ w. w ++ rest ≡ all)) (sym e) tt
 sent-part (Some w) n wrote rest out all e cut h =
-    subst (λ (x : Option (List ℕ)). IfSome x (λ w. w ++ rest ≡ all)) (sym e) (append_assoc w wrote rest ∙ ap (λ (x : List ℕ). w ++ x) (sym cut) ∙ h)
+    subst (λ (x : Option (List ℕ)). IfSome x (λ w. w ++ rest ≡ all)) (sym e) (append_assoc w wrote rest ∙ ap (λ (x : List ℕ). w ++ x) cut ∙ h)
 
 -- more is to be written
 sent-more : (o : Option (List ℕ)) (out more all : List ℕ) → IfSome o (λ w. w ++ out ≡ all) → IfSome o (λ w. w ++ (out ++ more) ≡ all ++ more)
@@ -42,9 +42,9 @@ pub affords : (start : Start) (all : List Happening) (cost : ℕ) → cost ≡ s
 affords start all cost is less = subst (λ (n : ℕ). n < allowed (limits_in start.limits all)) is less
 
 -- bytes were written
-pub on-sends : (start : Start) (all : List Happening) (c : Client) (out wrote rest : List ℕ) (link new : LinkState) (replied : Bool) (cost : ℕ)
-    → OnLink start all (spot c out link replied cost) → out ≡ wrote ++ rest → Sends link wrote new → OnLink start all (spot c rest new replied cost)
-on-sends start all c out wrote rest link new replied cost on cut s = record {
+pub on-sends : (start : Start) (all : List Happening) (c : Client) (out wrote rest : List ℕ) (link new : LinkState) (replied : Bool) (cost failed : ℕ)
+    → OnLink start all (spot c out link replied cost) → wrote ++ rest ≡ out → Sends link wrote failed new → OnLink start all (spot c rest new replied cost)
+on-sends start all c out wrote rest link new replied cost failed on cut s = record {
   leads = on.leads;
   told = told-same link.events new.events (events_in all) s.events on.told;
   filled = on.filled;
@@ -57,6 +57,15 @@ on-sends start all c out wrote rest link new replied cost on cut s = record {
   below = on.below;
   within = on.within;
 }
+
+-- a write failed behind a first part of what is to be written
+pub on-part : (start : Start) (all : List Happening) (c : Client) (out : List ℕ) (link new : LinkState) (replied : Bool) (cost : ℕ)
+    → OnLink start all (spot c out link replied cost) → (s : SendsPart link out new) → OnLink start all (spot c s.lost new replied cost)
+on-part start all c out link new replied cost on s = on-sends start all c out s.part s.lost link new replied cost 1 on s.cut s.sends
+
+-- its fault is counted
+pub unsent-counted : (link new : LinkState) (out : List ℕ) → SendsPart link out new → 0 < new.write_faults
+unsent-counted link new out s = omega (arith, s.sends.write_faults.2)
 
 -- a frame was taken
 pub on-takes : (start : Start) (all : List Happening) (old new : Client) (out out_after : List ℕ) (link : LinkState) (replied now_replied : Bool) (cost : ℕ) (event : ClientEvent)

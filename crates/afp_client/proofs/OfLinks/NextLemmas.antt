@@ -1,6 +1,7 @@
 -- What the next event leads to.
 use Rattle.std.proofs.Common.{◌≡◌, ℕ, Bool, true, false, ◌||◌, List, [], ◌∷◌, length, Option, None, refl, sym, ap, subst, ◌∙◌, append-nil, length-append, arith}
 use Rattle.afp_outside.specs.ends.Link.{LinkState}
+use Rattle.afp_outside.specs.ends.Whole.{Sends, SendsPart}
 use Rattle.dsi_frame.specs.Frame.{Frame}
 use Rattle.afp_client.specs.session.State.{Client, ClientState, IsReady, is_opened}
 use Rattle.afp_client.specs.session.Takes.{step, written}
@@ -9,38 +10,37 @@ use Rattle.afp_client.specs.declared.session.event.Event.{Event}
 use Rattle.afp_client.specs.declared.session.event.Event.TheVariants as events
 use Rattle.afp_client.specs.links.History.{Happening, took, is_reply}
 use Rattle.afp_client.specs.links.OnLink.{Start, spot, OnLink, closed_by_server, failed_write}
-use Rattle.afp_client.specs.links.lemma.Sending.{Sends, SendsPart}
 use Rattle.afp_client.specs.links.lemma.Coming.{Same, GoesOn, ComesBy, BreaksLink, NextOn, next_of, opened_next}
 use Rattle.afp_base.specs.declared.code.Code.{Code}
 use Rattle.afp_client.specs.declared.links.came.Came.TheVariants as comes
 use Rattle.afp_client.specs.declared.links.came.Next.TheVariants as nexts
-use Rattle.afp_client.proofs.OfLinks.LinkLemmas.{on-sends, on-takes}
+use Rattle.afp_client.proofs.OfLinks.LinkLemmas.{on-sends, on-part, unsent-counted, on-takes}
 use Rattle.afp_client.proofs.OfLinks.TellLemmas.{step_alone, told_ready}
 
 -- all is written
 pub on-sent : (start : Start) (all : List Happening) (c : Client) (out : List ℕ) (link after : LinkState) (replied : Bool) (cost : ℕ)
-    → OnLink start all (spot c out link replied cost) → Sends link out after → OnLink start all (spot c [] after replied cost)
-on-sent start all c out link after replied cost on s = on-sends start all c out out [] link after replied cost on (sym (append-nil out)) s
+    → OnLink start all (spot c out link replied cost) → Sends link out 0 after → OnLink start all (spot c [] after replied cost)
+on-sent start all c out link after replied cost on s = on-sends start all c out out [] link after replied cost 0 on (append-nil out) s
 
 -- nothing happens
 pub stays-on : (start : Start) (all : List Happening) (old new : Client) (out : List ℕ) (link after : LinkState) (replied : Bool) (cost : ℕ)
-    → OnLink start all (spot old [] link replied cost) → StaysAsItIs old [] new out → Sends link out after → GoesOn start all new after replied cost
+    → OnLink start all (spot old [] link replied cost) → StaysAsItIs old [] new out → Sends link out 0 after → GoesOn start all new after replied cost
 stays-on start all old new out link after replied cost on s sends = record {
   now = all;
   on = on-sent start all new [] link after replied cost (subst (λ (c : Client). OnLink start all (spot c [] link replied cost)) (sym s.client) on)
-      (subst (λ (x : List ℕ). Sends link x after) s.nothing_written sends);
+      (subst (λ (x : List ℕ). Sends link x 0 after) s.nothing_written sends);
   same = record { results = λ was. refl; asked = λ was. refl; limits = λ was. refl };
 }
 
 took-on : (start : Start) (all : List Happening) (old new : Client) (out : List ℕ) (link after : LinkState) (replied now_replied : Bool) (cost : ℕ) (event : Event)
-    → OnLink start all (spot old [] link replied cost) → (t : TakesNext old [] event new out) → now_replied ≡ (is_reply (is_opened old.state.stage) event || replied) → Sends link out after
+    → OnLink start all (spot old [] link replied cost) → (t : TakesNext old [] event new out) → now_replied ≡ (is_reply (is_opened old.state.stage) event || replied) → Sends link out 0 after
     → OnLink start (took old.state t.frame (step new.state t.writes event) ∷ all) (spot new [] after now_replied cost)
 took-on start all old new out link after replied now_replied cost event on t is sends =
     on-sent start (took old.state t.frame (step new.state t.writes event) ∷ all) new out link after now_replied cost
     (on-takes start all old new [] out link replied now_replied cost event on t is) sends
 
 comes-on : (start : Start) (all : List Happening) (old new : Client) (out : List ℕ) (link after : LinkState) (replied now_replied : Bool) (cost : ℕ) (event : Event)
-    → OnLink start all (spot old [] link replied cost) → (t : TakesNext old [] event new out) → now_replied ≡ (is_reply (is_opened old.state.stage) event || replied) → Sends link out after
+    → OnLink start all (spot old [] link replied cost) → (t : TakesNext old [] event new out) → now_replied ≡ (is_reply (is_opened old.state.stage) event || replied) → Sends link out 0 after
     → ComesBy start all event new after now_replied cost
 comes-on start all old new out link after replied now_replied cost event on t is sends = record {
   before = all;
@@ -71,7 +71,7 @@ same-took all s f t writes (events.Attention word) q = record { results = λ was
 same-took all s f t writes events.Closed q = record { results = λ was. refl; asked = λ was. refl; limits = λ was. refl }
 
 goes-on : (start : Start) (all : List Happening) (old new : Client) (out : List ℕ) (link after : LinkState) (replied now_replied : Bool) (cost : ℕ) (event : Event) → IsQuietEvent event
-    → OnLink start all (spot old [] link replied cost) → (t : TakesNext old [] event new out) → now_replied ≡ (is_reply (is_opened old.state.stage) event || replied) → Sends link out after
+    → OnLink start all (spot old [] link replied cost) → (t : TakesNext old [] event new out) → now_replied ≡ (is_reply (is_opened old.state.stage) event || replied) → Sends link out 0 after
     → GoesOn start all new after now_replied cost
 goes-on start all old new out link after replied now_replied cost event q on t is sends = record {
   now = took old.state t.frame (step new.state t.writes event) ∷ all;
@@ -80,13 +80,13 @@ goes-on start all old new out link after replied now_replied cost event q on t i
 }
 
 ready-on : (start : Start) (turns : ℕ) (all : List Happening) (old new : Client) (out : List ℕ) (link after : LinkState) (replied now_replied : Bool) (cost : ℕ) (opening : Bool)
-    → OnLink start all (spot old [] link replied cost) → (t : TakesNext old [] events.Ready new out) → now_replied ≡ replied → Sends link out after
+    → OnLink start all (spot old [] link replied cost) → (t : TakesNext old [] events.Ready new out) → now_replied ≡ replied → Sends link out 0 after
     → NextOn start turns all (opened_next opening) new after now_replied cost
 ready-on start turns all old new out link after replied now_replied cost true on t is sends = comes-on start all old new out link after replied now_replied cost events.Ready on t is sends
 ready-on start turns all old new out link after replied now_replied cost false on t is sends = goes-on start all old new out link after replied now_replied cost events.Ready tt on t is sends
 
 pub next-on : (start : Start) (turns : ℕ) (all : List Happening) (old new : Client) (out : List ℕ) (link after : LinkState) (replied now_replied : Bool) (cost : ℕ) (opening : Bool) (at : ℕ) (event : Event)
-    → at ≡ old.held.place → OnLink start all (spot old [] link replied cost) → Happens old [] event new out → now_replied ≡ (is_reply (is_opened old.state.stage) event || replied) → Sends link out after
+    → at ≡ old.held.place → OnLink start all (spot old [] link replied cost) → Happens old [] event new out → now_replied ≡ (is_reply (is_opened old.state.stage) event || replied) → Sends link out 0 after
     → NextOn start turns all (next_of opening at event) new after now_replied cost
 next-on start turns all old new out link after replied now_replied cost opening at events.NotYet place on h is sends =
     subst (λ (b : Bool). GoesOn start all new after b cost) (sym is) (stays-on start all old new out link after replied cost on h.stays sends)
@@ -134,11 +134,11 @@ breaks-took : (start : Start) (all : List Happening) (old new : Client) (out : L
 breaks-took start all old new out link after replied now_replied cost event q on t is s = record {
   now = took old.state t.frame (step new.state t.writes event) ∷ all;
   lost = s.lost;
-  on = on-sends start (took old.state t.frame (step new.state t.writes event) ∷ all) new out s.part s.lost link after now_replied cost
-      (on-takes start all old new [] out link replied now_replied cost event on t is) s.cut s.sends;
+  on = on-part start (took old.state t.frame (step new.state t.writes event) ∷ all) new out link after now_replied cost
+      (on-takes start all old new [] out link replied now_replied cost event on t is) s;
   same = same-took all old.state t.frame new.state t.writes event q;
-  broke = failed_write s.fault;
-  lacks = λ some. s.fault;
+  broke = failed_write (unsent-counted link after out s);
+  lacks = λ some. unsent-counted link after out s;
 }
 
 pub next-unsent : (start : Start) (all : List Happening) (old new : Client) (out : List ℕ) (link after : LinkState) (replied now_replied : Bool) (cost : ℕ) (event : Event)

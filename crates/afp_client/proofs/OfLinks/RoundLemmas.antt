@@ -2,17 +2,17 @@
 use Rattle.std.proofs.Common.{◌≡◌, ℕ, ◌+◌, ◌<◌, ◌≤◌, Bool, List, [], ◌∷◌, ◌++◌, take, Option, Some, None, refl, sym, ap, subst, ◌∙◌, arith}
 use Rattle.std.specs.Prelude.{IfSome}
 use Rattle.afp_outside.specs.ends.Link.{Event, LinkState, ReadsQuiet, ReadsEnd, FailsToRead}
+use Rattle.afp_outside.specs.ends.Whole.{Sends, SendsPart}
 use Rattle.dsi_frame.specs.Frame.{canonical_frame}
 use Rattle.dsi_session.specs.Pulse.{silence_limit, seconds_between}
 use Rattle.afp_client.specs.session.State.{Client}
 use Rattle.afp_client.specs.links.History.{Happening, received, was_quiet, tickled, tickle_frame, allowed, events_in, limits_in, to_write}
 use Rattle.afp_client.specs.links.OnLink.{Start, spot, OnLink, Broke, ended, failed_read, failed_write, silent}
 use Rattle.afp_client.specs.links.lemma.Reading.{Holds}
-use Rattle.afp_client.specs.links.lemma.Sending.{Sends, SendsPart}
 use Rattle.afp_client.specs.links.lemma.Coming.{Same, GoesOn, BreaksLink, CameOn, RoundOn}
 use Rattle.afp_client.specs.declared.links.came.Came.{Came}
 use Rattle.afp_client.specs.declared.links.came.Came.TheVariants as comes
-use Rattle.afp_client.proofs.OfLinks.LinkLemmas.{affords, on-sends, on-receives, on-quiet, on-tickles}
+use Rattle.afp_client.proofs.OfLinks.LinkLemmas.{affords, on-part, unsent-counted, on-receives, on-quiet, on-tickles}
 use Rattle.afp_client.proofs.OfLinks.NextLemmas.{on-sent}
 
 pub same-same : (all : List Happening) → Same all all
@@ -66,7 +66,7 @@ silent-breaks start all c link replied cost on h = breaks-here start all c link 
 
 -- a Tickle was written, or not
 pub tickles : (start : Start) (all : List Happening) (c : Client) (out : List ℕ) (link after : LinkState) (replied : Bool) (cost : ℕ) → OnLink start all (spot c [] link replied cost)
-    → out ≡ [] ++ canonical_frame tickle_frame → Sends link out after → GoesOn start all c after replied cost
+    → out ≡ [] ++ canonical_frame tickle_frame → Sends link out 0 after → GoesOn start all c after replied cost
 tickles start all c out link after replied cost on is s = record {
   now = tickled ∷ all;
   on = on-sent start (tickled ∷ all) c out link after replied cost (on-tickles start all c [] out link replied cost on is) s;
@@ -78,10 +78,10 @@ pub tickle-unsent : (start : Start) (all : List Happening) (c : Client) (out : L
 tickle-unsent start all c out link after replied cost on is s = record {
   now = tickled ∷ all;
   lost = s.lost;
-  on = on-sends start (tickled ∷ all) c out s.part s.lost link after replied cost (on-tickles start all c [] out link replied cost on is) s.cut s.sends;
+  on = on-part start (tickled ∷ all) c out link after replied cost (on-tickles start all c [] out link replied cost on is) s;
   same = record { results = λ was. refl; asked = λ was. refl; limits = λ was. refl };
-  broke = failed_write s.fault;
-  lacks = λ some. s.fault;
+  broke = failed_write (unsent-counted link after out s);
+  lacks = λ some. unsent-counted link after out s;
 }
 
 -- what a read gave
@@ -137,8 +137,8 @@ pub unsent : (start : Start) (all : List Happening) (c : Client) (out : List ℕ
 unsent start all c out link after replied cost on s = record {
   now = all;
   lost = s.lost;
-  on = on-sends start all c out s.part s.lost link after replied cost on s.cut s.sends;
+  on = on-part start all c out link after replied cost on s;
   same = same-same all;
-  broke = failed_write s.fault;
-  lacks = λ some. s.fault;
+  broke = failed_write (unsent-counted link after out s);
+  lacks = λ some. unsent-counted link after out s;
 }

@@ -10,6 +10,7 @@ use Rattle.afp_client.specs.session.State.{Client, ClientState, IsReady, call_fr
 use Rattle.afp_client.specs.declared.session.event.Event.{Event}
 use Rattle.afp_client.specs.declared.session.event.Event.TheVariants as events
 use Rattle.afp_outside.specs.ends.Dialer.{DialerState, TakesBack}
+use Rattle.afp_outside.specs.ends.Whole.{SendsAll}
 use Rattle.afp_client.specs.links.History.{Happening, asks, closes, close_session_frame, took, asked_in, results_in, asked_by, result_by, told_to}
 use Rattle.afp_client.specs.links.OnLink.{Start, spot, OnLink}
 use Rattle.afp_client.specs.links.Links.{Part, Over, Hands, dialled, links_of, asked_of, limits_of, results_of, all_asked, all_limits, all_results}
@@ -22,8 +23,7 @@ use Rattle.afp_client.specs.declared.links.came.Came.TheVariants as comes
 use Rattle.afp_client.specs.declared.links.links.Answered.{Answered}
 use Rattle.afp_client.specs.declared.links.links.TalkEnd.{TalkEnd}
 use Rattle.afp_client.specs.declared.links.links.TalkEnd.TheVariants as ends
-use Rattle.afp_client.specs.links.lemma.Sending.{SendsAll}
-use Rattle.afp_client.proofs.OfLinks.LinkLemmas.{on-asks, on-closes, on-sends}
+use Rattle.afp_client.proofs.OfLinks.LinkLemmas.{on-asks, on-closes, on-part, unsent-counted}
 use Rattle.afp_client.proofs.OfLinks.NextLemmas.{on-sent}
 use Rattle.afp_client.proofs.OfLinks.JoinLemmas.{same_over-same}
 
@@ -218,8 +218,8 @@ closes-link state first old past all c none out link after replied false idle co
       lost = s.lost;
       replied = replied;
       cost = cost;
-      on = on-sends (dialled o.from) (closes ∷ all) c out s.part s.lost (state link) (state after) replied cost on s.cut s.sends;
-      lacks = λ some. s.fault;
+      on = on-part (dialled o.from) (closes ∷ all) c out (state link) (state after) replied cost on s;
+      lacks = λ some. unsent-counted (state link) (state after) out s;
       hands = hands-all old mid new past after o.hands gives;
     }
 

@@ -5,6 +5,7 @@ use Rattle.std.specs.Option.{option_to_list}
 use Rattle.afp_base.specs.declared.ids.LinkNumber.{LinkNumber}
 use Rattle.afp_outside.specs.ends.Gate.{Passed, with_entered, with_exited}
 use Rattle.afp_outside.specs.ends.Link.{LinkState}
+use Rattle.afp_outside.specs.ends.Whole.{Sends, SendsPart}
 use Rattle.afp_serial.specs.Shown.{Shown}
 use Rattle.dsi_frame.specs.Buffered.{Buffered}
 use Rattle.dsi_frame.specs.Frame.{Frame, IsSpelling}
@@ -16,7 +17,6 @@ use Rattle.afp_server.specs.link.Passing.{calls_in}
 use Rattle.afp_server.specs.link.lemma.Passing.{call_link}
 use Rattle.dsi_frame.specs.Replies.{listed, spelling_of}
 use Rattle.afp_server.specs.link.Script.{Does}
-use Rattle.afp_server.specs.link.lemma.Sending.{Sends, SendsPart}
 use Rattle.afp_server.specs.link.lemma.Serving.{Start, point, SoFar, Ended, end_of_frame}
 use Rattle.afp_server.specs.link.lemma.SessionState.{SessionState, Acts}
 use Rattle.afp_server.specs.declared.link.serve.LinkEnd.{LinkEnd}

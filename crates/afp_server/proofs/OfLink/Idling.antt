@@ -3,6 +3,7 @@ use Rattle.std.proofs.Common.{◌≡◌, ℕ, ◌<◌, true, false, [], ◌∷�
 use Rattle.std.specs.Prelude.{Option, Some, None}
 use Rattle.afp_base.specs.declared.ids.LinkNumber.{LinkNumber}
 use Rattle.afp_outside.specs.ends.Link.{LinkState}
+use Rattle.afp_outside.specs.ends.Whole.{Sends, SendsPart}
 use Rattle.afp_serial.specs.declared.ask.Ask.TheVariants as asks
 use Rattle.afp_serial.specs.declared.ask.Told.{Told}
 use Rattle.afp_serial.specs.declared.ask.Told.TheVariants as tells
@@ -13,7 +14,6 @@ use Rattle.dsi_frame.specs.Replies.{listed, spelling_of}
 use Rattle.dsi_session.specs.Pulse.{silence_limit, seconds_between}
 use Rattle.afp_server.specs.link.Requests.{Requests, drain_in, is_over, request_at, requests_after}
 use Rattle.afp_server.specs.link.Trace.{displaced, silent, drained, unwritten, idled_still, pulsed, IdlesOn}
-use Rattle.afp_server.specs.link.lemma.Sending.{Sends, SendsPart}
 use Rattle.afp_server.specs.link.lemma.Serving.{IdlesLink, IdlesOpen, OpenEnds}
 use Rattle.afp_server.specs.link.lemma.SessionState.{SessionState, AsksPulse, PulsesLive}
 use Rattle.afp_server.specs.declared.link.serve.LinkEnd.{LinkEnd}
@@ -22,10 +22,7 @@ use Rattle.afp_server.specs.declared.link.stage.Idle.{Idle}
 use Rattle.afp_server.specs.declared.link.stage.Idle.TheVariants as idles
 use Rattle.afp_server.specs.declared.link.stage.Stage.{Stage}
 use Rattle.afp_server.specs.declared.link.stage.Stage.TheVariants as stages
-use Rattle.afp_server.proofs.OfLink.Moving.{moves-none}
-
-sends-none : (a : LinkState) → Sends a [] 0 a
-sends-none a = record { moves = moves-none a; ended = refl; now = refl; last_read = refl }
+use Rattle.afp_outside.proofs.OfEnds.Whole.{sends-none}
 
 went-still : (a b : Shown) → b ≡ a → Went a [] b
 went-still a b same = subst (λ (x : Shown). Went a [] x) (sym same) (went-none a)

@@ -1,11 +1,10 @@
 -- A link moves on from step to step.
-use Rattle.std.proofs.Common.{◌≡◌, ℕ, ◌+◌, ◌<◌, ◌==◌, false, rules, List, [], ◌∷◌, ◌++◌, length, refl, sym, ap, subst, ◌∙◌, append_assoc, append-nil, length-append, take, drop, ◌-◌, arith}
+use Rattle.std.proofs.Common.{◌≡◌, ℕ, ◌+◌, List, [], ◌∷◌, ◌++◌, length, refl, sym, ap, ◌∙◌, append_assoc, length-append, arith}
 use Rattle.std.specs.Prelude.{Option, Some, None, option_map}
-use Rattle.afp_outside.specs.ends.Link.{Event, piece, quiet, bytes_taken, LinkState, WritesPiece, FailsToWrite}
+use Rattle.afp_outside.specs.ends.Link.{Event, piece, quiet, bytes_taken, LinkState}
+use Rattle.afp_outside.specs.ends.Whole.{Sends}
 use Rattle.afp_server.specs.link.LinkRun.{quiets_in, cost_of, Moves}
-use Rattle.afp_server.specs.link.lemma.Sending.{Sends}
 use Rattle.afp_base.proofs.Facts.{added-added, nothing-added}
-use Rattle.afp_base.proofs.ListFacts.{cut_at}
 
 pub left-none : (o : Option (List ℕ)) → o ≡ option_map (λ left. [] ++ left) o
 left-none None = refl
@@ -49,50 +48,13 @@ moves-join a b c es fs wrote more failed one two = record {
   write_faults = (omega arith, omega arith, omega arith);
 }
 
--- what a write does is a move
-pub moves-write : (a b : LinkState) (offered : List ℕ) (n : ℕ) → WritesPiece a offered n b → Moves a [] (take n offered) 0 b
-moves-write a b offered n w = record {
-  told = w.events ∙ nothing-added a.events;
-  coming = sym w.coming ∙ left-none b.coming;
-  written = w.written;
-  quiets = (omega (arith, w.quiets), omega (arith, w.quiets), omega (arith, w.quiets));
-  read_faults = omega (arith, w.read_faults);
-  write_faults = (omega (arith, w.write_faults), omega (arith, w.write_faults), omega (arith, w.write_faults));
+-- what is written to a link is a move
+pub sends-moves : (a b : LinkState) (wrote : List ℕ) (failed : ℕ) → Sends a wrote failed b → Moves a [] wrote failed b
+sends-moves a b wrote failed s = record {
+  told = s.events ∙ nothing-added a.events;
+  coming = sym s.coming ∙ left-none b.coming;
+  written = s.written;
+  quiets = (omega (arith, s.quiets), omega (arith, s.quiets), omega (arith, s.quiets));
+  read_faults = omega (arith, s.read_faults);
+  write_faults = s.write_faults;
 }
-
--- a write that failed wrote nothing, and is counted
-pub moves-unwritten : (a b : LinkState) → FailsToWrite a b → Moves a [] [] 1 b
-moves-unwritten a b w = record {
-  told = w.events ∙ nothing-added a.events;
-  coming = sym w.coming ∙ left-none b.coming;
-  written = w.written ∙ nothing-added a.written;
-  quiets = (omega (arith, w.quiets), omega (arith, w.quiets), omega (arith, w.quiets));
-  read_faults = omega (arith, w.read_faults);
-  write_faults = w.write_faults;
-}
-
-pub sends-join : (a b c : LinkState) (sent more : List ℕ) (failed : ℕ) → Sends a sent 0 b → Sends b more failed c → Sends a (sent ++ more) failed c
-sends-join a b c sent more failed one two = record {
-  moves = moves-join a b c [] [] sent more failed one.moves two.moves;
-  ended = two.ended ∙ one.ended;
-  now = two.now ∙ one.now;
-  last_read = two.last_read ∙ one.last_read;
-}
-
-pub sends-more : (a b c : LinkState) (offered sent left : List ℕ) (n : ℕ) → offered ≡ sent ++ left → Sends a sent 0 b → WritesPiece b left n c
-    → (x : List ℕ) × (offered ≡ x ++ take (length left - n) (drop n left)) × Sends a x 0 c
-sends-more a b c offered sent left n split so_far w = (
-  sent ++ take n left,
-  split ∙ ap (λ rest. sent ++ rest) (cut_at left n w.most) ∙ sym (append_assoc sent (take n left) (take (length left - n) (drop n left))),
-  sends-join a b c sent (take n left) 0 so_far (record { moves = moves-write b c left n w; ended = w.ended; now = w.now; last_read = w.last_read }),
-)
-
--- a write failed behind the bytes that were sent
-pub sends-failed : (a b c : LinkState) (sent : List ℕ) → Sends a sent 0 b → FailsToWrite b c → Sends a sent 1 c
-sends-failed a b c sent so_far w =
-    subst (λ (x : List ℕ). Sends a x 1 c) (append-nil sent)
-    (sends-join a b c sent [] 1 so_far (record { moves = moves-unwritten b c w; ended = w.ended; now = w.now; last_read = w.last_read }))
-
-pub some_left : (xs : List ℕ) → false ≡ (length xs == 0) → 0 < length xs
-some_left (x ∷ xs) h = omega arith
-some_left [] h = search rules

@@ -4,6 +4,7 @@ use Rattle.std.proofs.lemmas.List.{length-take}
 use Rattle.std.specs.Prelude.{Option, Some, None, option_map}
 use Rattle.afp_outside.specs.ends.Gate.{Passed}
 use Rattle.afp_outside.specs.ends.Link.{Event, piece, quiet, LinkState, ReadsPiece, ReadsQuiet, ReadsEnd, FailsToRead}
+use Rattle.afp_outside.specs.ends.Whole.{Sends}
 use Rattle.afp_serial.specs.Shown.{Shown}
 use Rattle.afp_serial.specs.Went.{Step, Went}
 use Rattle.afp_serial.proofs.Grows.{went-join}
@@ -14,13 +15,12 @@ use Rattle.afp_server.specs.link.LinkRun.{Moves, Fills, MayRead, EachMayRead, En
 use Rattle.afp_server.specs.link.lemma.Passing.{all_passed}
 use Rattle.dsi_frame.specs.Replies.{listed, spelling_of}
 use Rattle.afp_server.specs.link.Requests.{Requests}
-use Rattle.afp_server.specs.link.lemma.Sending.{Sends}
 use Rattle.afp_server.specs.link.lemma.Serving.{Start, Point, point, SoFar, Ended, IdlesLink}
 use Rattle.afp_server.specs.link.Trace.{Happening, received, was_quiet, events_in, frames_in, sent_in, steps_in, standing, begun, Cause, displaced, silent, drained, unwritten, Idled, Idles, Follows}
 use Rattle.afp_server.specs.declared.link.serve.LinkEnd.{LinkEnd}
 use Rattle.afp_server.specs.declared.link.serve.LinkEnd.TheVariants as links
 use Rattle.afp_server.specs.declared.link.stage.Stage.{Stage}
-use Rattle.afp_server.proofs.OfLink.Moving.{moves-join, left-none, cost_of-append}
+use Rattle.afp_server.proofs.OfLink.Moving.{moves-join, left-none, cost_of-append, sends-moves}
 use Rattle.afp_server.proofs.OfLink.Passing.{passed-more, idles-calls, through-all}
 use Rattle.afp_server.proofs.OfLink.Serving.{moves-events, moves-sends, some_lost-replied}
 use Rattle.afp_server.proofs.OfLink.Traces.{events_in-append, frames_in-append, sent_in-append, steps_in-append, sent-quiet, steps-quiet, bytes_read-append, follows-snoc, each-snoc, fills-later}
@@ -161,7 +161,7 @@ idles-moves start p cost read idled shown why wrote failed end r =
     let before : List ℕ = spelling_of (sent_in s.trace) in
     moves-events start.link end failed (events_in s.trace ++ events_in (h ∷ [])) (events_in (s.trace ++ h ∷ [])) (before ++ wrote) (before ++ wrote) (sym (events_in-append s.trace (h ∷ []))) refl
     (moves-join start.link p.link end (events_in s.trace) (events_in (h ∷ [])) before wrote failed s.moves
-    (moves-sends p.link read end failed (events_in (h ∷ [])) [] wrote (moves-quiet p.link read r.reads) r.sends.moves))
+    (moves-sends p.link read end failed (events_in (h ∷ [])) [] wrote (moves-quiet p.link read r.reads) (sends-moves read end wrote failed r.sends)))
 
 -- the same, where all of the quiet's request was written
 idles-moves-all : (start : Start) (p : Point) (cost : ℕ) (read : LinkState) (idled : Idled) (shown : Shown) (why : Option Cause) (end : LinkState) → (r : IdlesHere start p cost read idled shown why (spelling_of (listed idled.request)) 0 end)

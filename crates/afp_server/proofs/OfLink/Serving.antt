@@ -5,6 +5,7 @@ use Rattle.std.specs.Option.{option_to_list}
 use Rattle.afp_base.specs.declared.ids.LinkNumber.{LinkNumber}
 use Rattle.afp_outside.specs.ends.Gate.{Passed, none_passed, with_entered}
 use Rattle.afp_outside.specs.ends.Link.{Event, bytes_taken, LinkState}
+use Rattle.afp_outside.specs.ends.Whole.{Sends, SendsPart}
 use Rattle.afp_serial.specs.Shown.{Shown}
 use Rattle.afp_serial.specs.Went.{Step, Went}
 use Rattle.afp_serial.proofs.Grows.{went-none, went-join}
@@ -19,7 +20,6 @@ use Rattle.afp_server.specs.link.Passing.{calls_in, GoThrough}
 use Rattle.afp_server.specs.link.lemma.Passing.{all_passed}
 use Rattle.dsi_frame.specs.Replies.{listed, spelling_of}
 use Rattle.afp_server.specs.link.Script.{Does}
-use Rattle.afp_server.specs.link.lemma.Sending.{Sends, SendsPart}
 use Rattle.afp_server.specs.link.lemma.Serving.{Start, Point, point, SoFar, Ended, end_of_frame}
 use Rattle.afp_server.specs.link.Trace.{Happening, handled, events_in, frames_in, sent_in, steps_in, standing, begun, Cause, cause_of, Follows}
 use Rattle.afp_server.specs.declared.link.serve.LinkEnd.TheVariants as links
@@ -27,7 +27,7 @@ use Rattle.afp_server.specs.declared.link.stage.FrameEnd.{FrameEnd}
 use Rattle.afp_server.specs.declared.link.stage.FrameEnd.TheVariants as ends
 use Rattle.afp_server.specs.declared.link.stage.Stage.{Stage}
 use Rattle.afp_server.specs.declared.link.stage.Stage.TheVariants as stages
-use Rattle.afp_server.proofs.OfLink.Moving.{moves-none, moves-join}
+use Rattle.afp_server.proofs.OfLink.Moving.{moves-none, moves-join, sends-moves}
 use Rattle.afp_server.proofs.OfLink.Passing.{PassesFrame, passed-frame, through-all, through-unwritten}
 use Rattle.afp_server.proofs.OfLink.Traces.{frames_in-append, steps-one, events-one, sent-one, follows-snoc, each-snoc, fills-none, fills-one}
 
@@ -82,7 +82,7 @@ pub handles-moves : (start : Start) (p : Point) (cost : ℕ) (f : Frame) (did : 
 handles-moves start p cost f did first more shown link h s =
     moves-events start.link link 0 (events_in h.so_far.trace) (events_in (longer h.so_far.trace f did)) (spelling_of (sent_in h.so_far.trace) ++ spelling_of (listed did.reply)) (spelling_of (sent_in (longer h.so_far.trace f did)))
     (sym (events-one h.so_far.trace f did)) (sym (sent-one h.so_far.trace f did))
-    (moves-sends start.link p.link link 0 (events_in h.so_far.trace) (spelling_of (sent_in h.so_far.trace)) (spelling_of (listed did.reply)) h.so_far.moves s.moves)
+    (moves-sends start.link p.link link 0 (events_in h.so_far.trace) (spelling_of (sent_in h.so_far.trace)) (spelling_of (listed did.reply)) h.so_far.moves (sends-moves p.link link (spelling_of (listed did.reply)) 0 s))
 
 pub handles-reads : (start : Start) (p : Point) (cost : ℕ) (f : Frame) (did : Did) (first more : List ℕ) (shown : Shown)
     → (h : HandlesNext start p cost f did first more shown) → EachMayRead start.turns start.link.written [] (longer h.so_far.trace f did)
@@ -208,7 +208,7 @@ ends-unwritten start p cost f did first more shown link reply mid called h enter
     moves =
         moves-events start.link link 1 (events_in h.so_far.trace) (events_in (longer h.so_far.trace f did)) (spelling_of (sent_in h.so_far.trace) ++ s.part) (spelling_of (sent_in h.so_far.trace) ++ s.part)
         (sym (events-one h.so_far.trace f did)) refl
-        (moves-sends start.link p.link link 1 (events_in h.so_far.trace) (spelling_of (sent_in h.so_far.trace)) s.part h.so_far.moves s.sends.moves);
+        (moves-sends start.link p.link link 1 (events_in h.so_far.trace) (spelling_of (sent_in h.so_far.trace)) s.part h.so_far.moves (sends-moves p.link link s.part 1 s.sends));
     reads = handles-reads start p cost f did first more shown h;
     ends = (
       record {

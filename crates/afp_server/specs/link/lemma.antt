@@ -2,6 +2,5 @@
 pub mod Feeding
 pub mod Passing
 pub mod Requesting
-pub mod Sending
 pub mod Serving
 pub mod SessionState

@@ -6,12 +6,11 @@ ghost use Rattle.dsi_frame.specs.Stream.{Begins};
 ghost use Rattle.afp_server.specs.link.lemma.Serving.{Start, SoFar, ServesFrame, ServesFrames, point, end_of_frame};
 
 use crate::link::requests::LinkRequests;
-use crate::link::send::send_all;
 use crate::link::serve::LinkEnd;
 use crate::link::session::LinkSession;
 use crate::link::stage::{FrameEnd, Stage};
 use afp_base::LinkNumber;
-use afp_outside::{Gate, Link};
+use afp_outside::{Gate, Link, send_all};
 use afp_serial::Teller;
 use dsi_frame::{BadFrame, Deframer, Head, Header};
 

@@ -1,17 +1,16 @@
 //! What a link does at a quiet.
 ghost use Rattle.std.specs.Prelude.{◌≡◌, ◌≢◌, IfNone};
+ghost use Rattle.afp_outside.specs.ends.Whole.{SendsAll};
 ghost use Rattle.dsi_frame.specs.Replies.{listed, spelling_of};
 ghost use Rattle.afp_server.specs.link.Requests.{request_at, requests_after};
-ghost use Rattle.afp_server.specs.link.lemma.Sending.{SendsAll};
 ghost use Rattle.afp_server.specs.link.lemma.Serving.{IdlesLink, IdlesOpen};
 
 use crate::link::requests::{LinkRequests, Request, attention_bytes, is_over, tickle_bytes};
-use crate::link::send::send_all;
 use crate::link::serve::LinkEnd;
 use crate::link::session::LinkSession;
 use crate::link::stage::{Idle, Stage};
 use afp_base::{LinkNumber, Moment};
-use afp_outside::Link;
+use afp_outside::{Link, send_all};
 use afp_serial::Teller;
 
 /// A quiet: why it ends the link, where it does.

@@ -8,15 +8,12 @@ use Rattle.hex.specs.Hex.{decode_sized}
 use Rattle.afp_base.proofs.Facts.{never_both}
 use Rattle.afp_base.specs.Limits.{signature_size}
 use Rattle.afpd_lib.specs.words.Places.{AreVolumes, VolumeValue}
-use Rattle.afpd_lib.specs.words.Users.{AreUsers, IsUser, UserValue, comma}
+use Rattle.afpd_lib.specs.words.Users.{AreUsers, UserValue, comma, user_in}
 use Rattle.afpd_lib.specs.words.Words.{SaysUsers, SaysWords, WordValues}
 use Rattle.afpd_lib.specs.server.AskedHouse.{house_of}
 
-one_user : (text : List ℕ) (u v : UserValue) → IsUser text u → IsUser text v → u ≡ v
-one_user text u v a b =
-    let name : u.name ≡ v.name = a.name ∙ sym b.name in
-    let password : u.password ≡ v.password = a.password ∙ sym b.password in
-    λ i. record { name = name i; password = password i }
+one_user : (text : List ℕ) (u v : UserValue) → user_in text ≡ Some u → user_in text ≡ Some v → u ≡ v
+one_user text u v a b = same_Some u v (sym a ∙ b)
 
 -- a text lists one list of users
 one_users : (text : List ℕ) (us vs : List UserValue) → AreUsers text us → AreUsers text vs → us ≡ vs

@@ -5,6 +5,7 @@ use Rattle.afp_outside.specs.ends.Gate.{Passed}
 use Rattle.afp_outside.specs.ends.Link.{LinkState}
 use Rattle.afp_outside.specs.ends.Listener.{DoorState}
 use Rattle.afp_outside.specs.ends.Sink.{SinkState}
+use Rattle.afp_outside.specs.ends.Whole.{Prints, PrintsPart}
 use Rattle.afp_desk.specs.declared.desk.desk.Trace.{Trace}
 use Rattle.afp_server.specs.declared.doors.door.WorkerEnd.TheVariants as ends
 use Rattle.afp_desk.specs.workers.House.{closing_of}
@@ -21,13 +22,12 @@ use Rattle.afpd_lib.proofs.OfServer.Failing.{not-failed}
 use Rattle.afpd_lib.specs.server.Complete.{HoldGood, NoneFails, ServesGoodKeepers, ServesGoodWords}
 use Rattle.afpd_lib.specs.server.AskedHouse.{Asks, house_of}
 use Rattle.afpd_lib.specs.server.Run.{EndsRun, FailsToLoad, ServesWords, Status, WordsFailToLoad}
-use Rattle.afpd_lib.specs.server.Reporting.{Reports, ReportsPart}
 use Rattle.afpd_lib.specs.words.Words.{WordValues}
 use Rattle.afpd_lib.specs.declared.server.ends.RunEnd.{RunEnd}
 use Rattle.afpd_lib.specs.declared.server.ends.RunEnd.TheVariants as run
 
 -- where the report's count of faults did not rise, the whole line was written
-still : (before after : SinkState) (text : List ℕ) (status good : ℕ) → ((status ≡ good) × Reports before text after) ⊎ ((status ≡ 5) × ReportsPart before text after)
+still : (before after : SinkState) (text : List ℕ) (status good : ℕ) → ((status ≡ good) × Prints before text after) ⊎ ((status ≡ 5) × PrintsPart before text after)
     → after.faults ≡ before.faults → before.faults < last_count → status ≡ good
 still before after text status good (inl told) same low = told.0
 still before after text status good (inr told) same low = absurd (omega (arith, told.1.fault.2, same, low))

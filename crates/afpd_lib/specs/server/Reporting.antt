@@ -1,8 +1,7 @@
 -- The server's report: one line (this profile).
-use Rattle.std.specs.Prelude.{◌≡◌, ◌<◌, ℕ, Bool, true, false, List, ◌++◌, length, codes, option_map}
+use Rattle.std.specs.Prelude.{ℕ, List, ◌++◌, codes}
 use Rattle.std.specs.Fmt.{decimal}
-use Rattle.afp_base.specs.Counts.{CountsOn, counted}
-use Rattle.afp_outside.specs.ends.Sink.{SinkState}
+use Rattle.afp_base.specs.Counts.{counted}
 use Rattle.volume_keeper_records.specs.declared.rows.Reason.{Reason}
 use Rattle.volume_keeper_records.specs.declared.rows.Reason.TheVariants.{Shape, Parent, Twin, Range, Limit}
 
@@ -35,22 +34,3 @@ fault_line index = load_text index ++ codes " fault\n"
 -- the first record that no volume of that name has, by its key in hexadecimal, and why
 abbrev pub bad_line : ℕ → List ℕ → Reason → List ℕ
 bad_line index hex reason = load_text index ++ (codes " bad " ++ (hex ++ reason_text reason))
-
--- The whole text was written to a sink, and no write failed.
-pub record Reports (old : SinkState) (text : List ℕ) (new : SinkState) : Type 0 where
-  pub written : new.written ≡ option_map (λ before. before ++ text) old.written
-  pub faults : new.faults ≡ old.faults
-
--- A write failed behind a first part of the text: once, and its fault is counted.
-pub record ReportsPart (old : SinkState) (text : List ℕ) (new : SinkState) : Type 0 where
-  pub part : List ℕ
-  pub lost : List ℕ
-  pub some_lost : 0 < length lost
-  pub cut : part ++ lost ≡ text
-  pub written : new.written ≡ option_map (λ before. before ++ part) old.written
-  pub fault : CountsOn 1 old.faults new.faults
-
--- by the answer: whether all was written
-abbrev pub ReportsAll : SinkState → List ℕ → Bool → SinkState → Type 0
-ReportsAll old text true new = Reports old text new
-ReportsAll old text false new = ReportsPart old text new

@@ -11,6 +11,7 @@ use Rattle.afp_outside.specs.ends.Gate.{Passed}
 use Rattle.afp_outside.specs.ends.Link.{LinkState}
 use Rattle.afp_outside.specs.ends.Listener.{DoorState}
 use Rattle.afp_outside.specs.ends.Sink.{SinkState}
+use Rattle.afp_outside.specs.ends.Whole.{Prints, PrintsPart}
 use Rattle.afp_serial.specs.History.{faults_in, stand}
 use Rattle.afp_serial.specs.Household.{Household}
 use Rattle.afp_server.specs.declared.doors.door.WorkerEnd.{WorkerEnd}
@@ -19,7 +20,7 @@ use Rattle.afp_desk.specs.workers.House.{ServesHouse, ended_of, history_of}
 use Rattle.afp_desk.specs.workers.Keeping.{Keeping, steady_in}
 use Rattle.afp_desk.specs.declared.workers.house.Closing.{Closing}
 use Rattle.afpd_lib.specs.server.AskedHouse.{Asks, IsRefused, house_of}
-use Rattle.afpd_lib.specs.server.Reporting.{Reports, ReportsPart, bad_line, bad_words, counts_line, fault_line, no_memory}
+use Rattle.afpd_lib.specs.server.Reporting.{bad_line, bad_words, counts_line, fault_line, no_memory}
 use Rattle.afpd_lib.specs.words.Command.{server_app}
 use Rattle.afpd_lib.specs.words.Words.{WordValues}
 use Rattle.clap.specs.Faults.{fault_of}
@@ -96,14 +97,14 @@ EndsRun state passed door kept_by words keepers key clock doors (run.Served coun
 
 -- the text was reported, with this status; or it could not be, with status 5
 abbrev pub TellsStatus : ℕ → List ℕ → SinkState → SinkState → ℕ → Type 0
-TellsStatus good text old new status = ((status ≡ good) × Reports old text new) ⊎ ((status ≡ 5) × ReportsPart old text new)
+TellsStatus good text old new status = ((status ≡ good) × Prints old text new) ⊎ ((status ≡ 5) × PrintsPart old text new)
 
 -- What is reported of such an end, and the exit status: 0 for the help; 2 for refused words, 3 for a load that gave no volume, 4 for a door and 0, or 5 where
 -- the report could not be written; 6 for want of memory, written or not.
 abbrev pub Status : RunEnd → SinkState → SinkState → ℕ → Type 0
 Status (run.Helped text) old new status = TellsStatus 0 (string_bytes text) old new status
 Status run.Refused old new status = TellsStatus 2 bad_words old new status
-Status run.Memory old new status = (status ≡ 6) × (Reports old no_memory new ⊎ ReportsPart old no_memory new)
+Status run.Memory old new status = (status ≡ 6) × (Prints old no_memory new ⊎ PrintsPart old no_memory new)
 Status (run.BadRecord index hex reason) old new status = TellsStatus 3 (bad_line index (string_bytes hex) reason) old new status
 Status (run.LoadFailed index) old new status = TellsStatus 3 (fault_line index) old new status
 Status (run.DoorFailed counts) old new status = TellsStatus 4 (counts_line counts.entries counts.sessions) old new status

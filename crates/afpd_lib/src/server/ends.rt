@@ -5,10 +5,10 @@ ghost use Rattle.afpd_lib.specs.server.Run.{Status};
 ghost use Rattle.afpd_lib.specs.server.lemma.Run.{EndsLoad, EndsUnread, end_of};
 
 use crate::server::notes::tell;
-use crate::server::report::{report_all, report_bad, report_counts, report_fault};
+use crate::server::report::{report_bad, report_counts, report_fault};
 use crate::words::explain;
 use afp_core::Counts;
-use afp_outside::Sink;
+use afp_outside::{Sink, print_all};
 use afp_server::WorkerEnd;
 use std::alloc::Global;
 use volume_keeper::{LoadFault, Reason};
@@ -90,7 +90,7 @@ pub fn report_end<O: Sink>(end: RunEnd, report: &mut O) -> u8
 {
     match end {
         RunEnd::Helped { text } => {
-            if report_all(report, text.as_str().as_bytes()) {
+            if print_all(report, text.as_str().as_bytes()) {
                 0
             } else {
                 5
@@ -119,14 +119,14 @@ pub fn report_end<O: Sink>(end: RunEnd, report: &mut O) -> u8
         }
         RunEnd::LoadFailed { index } => { if report_fault(report, index) { 3 } else { 5 } }
         RunEnd::Refused => {
-            if report_all(report, b"bad words\n") {
+            if print_all(report, b"bad words\n") {
                 2
             } else {
                 5
             }
         }
         RunEnd::Memory => {
-            let _written = report_all(report, b"no memory\n");
+            let _written = print_all(report, b"no memory\n");
             6
         }
     }

@@ -1,11 +1,10 @@
 //! What a person is told beside the report. No promise speaks of what it says.
 ghost use Rattle.std.specs.Prelude.{◌≡◌};
 
-use crate::server::report::report_all;
 use crate::words::{PlaceWord, ServerWords, VolumeWord};
 use afp_base::{OutOfMemory, VolumeId};
 use afp_core::Core;
-use afp_outside::{Sink, Wrote};
+use afp_outside::{Sink, Wrote, print_all};
 use afp_serial::HouseFault;
 use record_keeper::Keeper;
 use std::alloc::Global;
@@ -26,7 +25,7 @@ impl Sink for NoNotes {
 
 /// Tells a text, as far as it can be written.
 pub fn tell<P: Sink>(notes: &mut P, text: &str) {
-    let _written = report_all(notes, text.as_bytes());
+    let _written = print_all(notes, text.as_bytes());
 }
 
 /// Appends where a volume is kept.

@@ -1,26 +1,12 @@
-//! Writing whole reports.
+//! Writing the lines of a report.
 ghost use Rattle.std.specs.Prelude.{◌≡◌, ◌+◌, ◌≤◌, ◌++◌, length, drop};
 ghost use Rattle.std.specs.Fmt.{decimal};
-ghost use Rattle.afpd_lib.specs.server.Reporting.{ReportsAll, bad_line, counts_line, fault_line, load_text, reason_text};
+ghost use Rattle.afp_outside.specs.ends.Whole.{PrintsAll};
+ghost use Rattle.afpd_lib.specs.server.Reporting.{bad_line, counts_line, fault_line, load_text, reason_text};
 
-use afp_outside::{Sink, Wrote};
+use afp_outside::{Sink, print_all};
 use itoa::write_digits;
 use volume_keeper::Reason;
-
-/// Writes the whole text, in as many writes as the sink takes. `false`: a write failed, and what was
-/// written is a first part of it.
-pub fn report_all<O: Sink>(report: &mut O, text: &[u8]) -> bool
-    ensures { ReportsAll (O.sink_state report.old) text.now result (O.sink_state report.new) }
-{
-    let mut left = text;
-    while !left.is_empty() {
-        match report.write(left) {
-            Wrote::Took(n) => left = &left[n..],
-            Wrote::Failed => return false,
-        }
-    }
-    true
-}
 
 /// The room that a line of counts takes at most: its words, and two numbers of 20 digits.
 const LINE: usize = 64;
@@ -63,11 +49,11 @@ fn put_counts(line: &mut [u8], entries: u64, sessions: u64) -> usize
 /// Writes how many entries the history has, and how many sessions were opened. `false`: a write failed.
 /// It takes no memory.
 pub fn report_counts<O: Sink>(report: &mut O, entries: u64, sessions: u64) -> bool
-    ensures { ReportsAll (O.sink_state report.old) (counts_line entries sessions) result (O.sink_state report.new) }
+    ensures { PrintsAll (O.sink_state report.old) (counts_line entries sessions) result (O.sink_state report.new) }
 {
     let mut line = [0; LINE];
     let start = put_counts(&mut line, entries, sessions);
-    report_all(report, &line[start..])
+    print_all(report, &line[start..])
 }
 
 /// The words that say why a record is refused.
@@ -85,37 +71,37 @@ fn reason_text(reason: Reason) -> &'static [u8]
 
 /// Writes which volume could not be loaded, by its index from 0. `false`: a write failed.
 fn report_load<O: Sink>(report: &mut O, index: usize) -> bool
-    ensures { ReportsAll (O.sink_state report.old) (load_text index) result (O.sink_state report.new) }
+    ensures { PrintsAll (O.sink_state report.old) (load_text index) result (O.sink_state report.new) }
 {
     let mut line = [0; LINE];
     let end = line.len();
     let start = put_number_before(&mut line, end, (index as u64).saturating_add(1));
     let start = put_before(&mut line, start, b"load ");
-    report_all(report, &line[start..])
+    print_all(report, &line[start..])
 }
 
 /// Writes that the keeper of a volume failed while it was loaded. `false`: a write failed.
 pub fn report_fault<O: Sink>(report: &mut O, index: usize) -> bool
-    ensures { ReportsAll (O.sink_state report.old) (fault_line index) result (O.sink_state report.new) }
+    ensures { PrintsAll (O.sink_state report.old) (fault_line index) result (O.sink_state report.new) }
 {
     if !report_load(report, index) {
         return false;
     }
-    report_all(report, b" fault\n")
+    print_all(report, b" fault\n")
 }
 
 /// Writes which record no volume has, by its key in hexadecimal, and why. `false`: a write failed.
 pub fn report_bad<O: Sink>(report: &mut O, index: usize, key: &[u8], reason: Reason) -> bool
-    ensures { ReportsAll (O.sink_state report.old) (bad_line index key.now reason) result (O.sink_state report.new) }
+    ensures { PrintsAll (O.sink_state report.old) (bad_line index key.now reason) result (O.sink_state report.new) }
 {
     if !report_load(report, index) {
         return false;
     }
-    if !report_all(report, b" bad ") {
+    if !print_all(report, b" bad ") {
         return false;
     }
-    if !report_all(report, key) {
+    if !print_all(report, key) {
         return false;
     }
-    report_all(report, reason_text(reason))
+    print_all(report, reason_text(reason))
 }

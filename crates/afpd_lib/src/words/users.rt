@@ -1,7 +1,7 @@
 //! Users, as a word lists them.
-ghost use Rattle.std.specs.Prelude.{◌≡◌, ◌-◌, ◌≤◌, ◌<◌, ◌++◌, length, map, replicate, IfSome, IfNone, IfOk, IsErrOf, MatchOption};
+ghost use Rattle.std.specs.Prelude.{◌≡◌, ◌≤◌, ◌<◌, length, map, Some, None, IfSome, IfNone, IfOk, IsErrOf, MatchOption};
 ghost use Rattle.afp_base.specs.Limits.{password_size};
-ghost use Rattle.afpd_lib.specs.words.Users.{UserValue, AreUsers, IsUser};
+ghost use Rattle.afpd_lib.specs.words.Users.{AreUsers, filled, user_in};
 ghost use Rattle.afpd_lib.specs.words.lemma.Values.{user_value};
 
 use crate::words::read::WordFault;
@@ -17,8 +17,7 @@ pub struct UserWord<'a> {
 
 /// A password of at most 8 bytes, filled with zeros.
 fn password_of(text: &str) -> Option<[u8; 8]>
-    ensures { MatchOption result (password_size < length text.now)
-        (λ password. (length text.now ≤ password_size) × (password ≡ text.now ++ replicate (password_size - length text.now) 0)) }
+    ensures { MatchOption result (password_size < length text.now) (λ password. (length text.now ≤ password_size) × (password ≡ filled text.now)) }
 {
     let bytes = text.as_bytes();
     if bytes.len() > PASSWORD_SIZE {
@@ -29,10 +28,10 @@ fn password_of(text: &str) -> Option<[u8; 8]>
     Some(password)
 }
 
-/// The user that a pair is.
-fn user_of<'a>(text: &'a str) -> Option<UserWord<'a>>
-    ensures found { IfSome result (λ user. IsUser text.entry.now (user_value user)) }
-    ensures none { IfNone result ((value : UserValue) → IsUser text.entry.now value → ⊥) }
+/// The user that a pair `NAME:PASSWORD` is. Its first colon parts it, and its password has at most 8 bytes.
+pub fn user_of<'a>(text: &'a str) -> Option<UserWord<'a>>
+    ensures found { IfSome result (λ user. user_in text.entry.now ≡ Some (record { name = user.name.now; password = user.password })) }
+    ensures none { IfNone result (user_in text.entry.now ≡ None) }
 {
     let (name, password) = text.split_once(':')?;
     let password = password_of(password)?;

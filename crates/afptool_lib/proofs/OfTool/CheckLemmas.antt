@@ -1,9 +1,8 @@
 -- The frames of a stream are printed one after the other.
 use Rattle.std.proofs.Common.{◌≡◌, ℕ, ◌+◌, ◌<◌, ◌≤◌, Bool, true, false, inl, inr, List, [], ◌∷◌, ◌++◌, length, take, min, ◌-◌, refl, sym, ap, ◌∙◌, subst, append_assoc, append-nil, length-append, length-take, take_all, arith}
-use Rattle.std.specs.Prelude.{Option, option_map}
-use Rattle.afp_base.specs.Counts.{CountsOn}
 use Rattle.afp_outside.specs.ends.Sink.{SinkState}
 use Rattle.afp_outside.specs.ends.Source.{SourceState, SourceGives, LastReadWithin}
+use Rattle.afp_outside.specs.ends.Whole.{Prints, PrintsPart, PrintsAll}
 use Rattle.dsi_frame.specs.Buffered.{Buffered, buffer_length}
 use Rattle.dsi_frame.specs.Frame.{Frame, header_of, header_length, IsBadHeader}
 use Rattle.dsi_frame.specs.Stream.{Begins, Spelled}
@@ -11,15 +10,15 @@ use Rattle.dsi_frame.specs.declared.frame.BadFrame.{BadFrame}
 use Rattle.dsi_frame.specs.declared.frame.Header.{Header}
 use Rattle.dsi_frame.proofs.FrameLemmas.{length-spelling, short_is_unfinished}
 use Rattle.dsi_frame.proofs.StreamLemmas.{spelled_push, given-frame, given-stop, given-feed, given-nothing}
-use Rattle.afpd_lib.specs.server.Reporting.{Reports, ReportsPart, ReportsAll}
-use Rattle.afptool_lib.specs.tool.Checking.{PrintsPart, ChecksPart, TellsCheck, end_text, end_status}
-use Rattle.afptool_lib.specs.tool.lemma.Checking.{Checks, HasChecked, Prints, PrintsTo}
+use Rattle.afptool_lib.specs.tool.Checking.{PrintsFramesPart, ChecksPart, TellsCheck, end_text, end_status}
+use Rattle.afptool_lib.specs.tool.lemma.Checking.{Checks, HasChecked, PrintsFrames, PrintsTo}
 use Rattle.afptool_lib.specs.tool.Telling.{Tells}
 use Rattle.afptool_lib.specs.tool.Lines.{frame_line, frame_lines}
 use Rattle.afptool_lib.specs.declared.tool.checking.CheckEnd.{CheckEnd}
 use Rattle.afptool_lib.specs.declared.tool.checking.CheckEnd.TheVariants as ends
 use Rattle.afptool_lib.specs.declared.tool.checking.FramesEnd.TheVariants as frames_ends
-use Rattle.afp_base.proofs.Facts.{added-added, nothing-added}
+use Rattle.afp_base.proofs.Facts.{nothing-added}
+use Rattle.afp_outside.proofs.OfEnds.Whole.{prints-both}
 use Rattle.capture_log.proofs.SoFar.{more-given}
 
 -- lines behind lines
@@ -36,26 +35,10 @@ lines-last at filled (g ∷ frames) f (first, rest, whole, spelling, more) =
     ap (λ (l : List ℕ). frame_line at (header_of g) ++ l) (lines-last next rest frames f more ∙ ap (λ (n : ℕ). frame_lines next frames ++ frame_line n (header_of f)) same)
     ∙ sym (append_assoc (frame_line at (header_of g)) (frame_lines next frames) (frame_line (at + length filled) (header_of f)))
 
-pub reports-both : (a b c : SinkState) (x y : List ℕ) → Reports a x b → Reports b y c → Reports a (x ++ y) c
-reports-both a b c x y r s = record {
-  written = s.written ∙ ap (λ (o : Option (List ℕ)). option_map (λ before. before ++ y) o) r.written ∙ added-added a.written x y;
-  faults = s.faults ∙ r.faults;
-}
-
-pub part-behind : (a b c : SinkState) (x y : List ℕ) → Reports a x b → ReportsPart b y c → ReportsPart a (x ++ y) c
-part-behind a b c x y r s = record {
-  part = x ++ s.part;
-  lost = s.lost;
-  some_lost = s.some_lost;
-  cut = append_assoc x s.part s.lost ∙ ap (λ (l : List ℕ). x ++ l) s.cut;
-  written = s.written ∙ ap (λ (o : Option (List ℕ)). option_map (λ before. before ++ s.part) o) r.written ∙ added-added a.written x s.part;
-  fault = subst (λ (n : ℕ). CountsOn 1 n c.faults) r.faults s.fault;
-}
-
 -- whole frames
 
-pub prints-frame : (start : SinkState) (bytes : List ℕ) (b after : Buffered) (now new : SinkState) (f : Frame) (h : Header) (begins : Begins b.rest f) → Prints start bytes b now → h ≡ header_of f
-    → Reports now (frame_line b.place h) new → after ≡ record { place = b.place + length begins.first; rest = begins.more } → Prints start bytes after new
+pub prints-frame : (start : SinkState) (bytes : List ℕ) (b after : Buffered) (now new : SinkState) (f : Frame) (h : Header) (begins : Begins b.rest f) → PrintsFrames start bytes b now → h ≡ header_of f
+    → Prints now (frame_line b.place h) new → after ≡ record { place = b.place + length begins.first; rest = begins.more } → PrintsFrames start bytes after new
 prints-frame start bytes b after now new f h begins p same r e =
     let place : b.place ≡ 0 + length p.given.filled = omega (arith, p.given.place) in
     let line : frame_lines 0 p.frames ++ frame_line b.place h ≡ frame_lines 0 (p.frames ++ f ∷ []) =
@@ -64,11 +47,11 @@ prints-frame start bytes b after now new f h begins p same r e =
     record {
       frames = p.frames ++ f ∷ [];
       given = given-frame bytes p.frames b after f begins p.given e;
-      printed = subst (λ (l : List ℕ). Reports start l new) line (reports-both start now new (frame_lines 0 p.frames) (frame_line b.place h) p.printed r);
+      printed = subst (λ (l : List ℕ). Prints start l new) line (prints-both start now new (frame_lines 0 p.frames) (frame_line b.place h) true p.printed r);
     }
 
-pub prints-part : (start : SinkState) (bytes : List ℕ) (b : Buffered) (now new : SinkState) (f : Frame) (h : Header) (begins : Begins b.rest f) → Prints start bytes b now → h ≡ header_of f
-    → ReportsPart now (frame_line b.place h) new → PrintsPart start bytes new
+pub prints-part : (start : SinkState) (bytes : List ℕ) (b : Buffered) (now new : SinkState) (f : Frame) (h : Header) (begins : Begins b.rest f) → PrintsFrames start bytes b now → h ≡ header_of f
+    → PrintsPart now (frame_line b.place h) new → PrintsFramesPart start bytes new
 prints-part start bytes b now new f h begins p same r =
     let place : b.place ≡ 0 + length p.given.filled = omega (arith, p.given.place) in
     let line : frame_lines 0 p.frames ++ frame_line b.place h ≡ frame_lines 0 (p.frames ++ f ∷ []) =
@@ -80,10 +63,10 @@ prints-part start bytes b now new f h begins p same r =
       more = begins.more;
       spelled = spelled_push p.given.filled begins.first p.frames f p.given.spelled begins.spelling;
       whole = p.given.whole ∙ ap (λ (l : List ℕ). p.given.filled ++ l) begins.whole ∙ sym (append_assoc p.given.filled begins.first begins.more);
-      printed = subst (λ (l : List ℕ). ReportsPart start l new) line (part-behind start now new (frame_lines 0 p.frames) (frame_line b.place h) p.printed r);
+      printed = subst (λ (l : List ℕ). PrintsPart start l new) line (prints-both start now new (frame_lines 0 p.frames) (frame_line b.place h) false p.printed r);
     }
 
-pub prints-bad : (start : SinkState) (bytes : List ℕ) (b : Buffered) (now : SinkState) (bad : BadFrame) → Prints start bytes b now → bad.at ≡ b.place → IsBadHeader b.rest bad.reason
+pub prints-bad : (start : SinkState) (bytes : List ℕ) (b : Buffered) (now : SinkState) (bad : BadFrame) → PrintsFrames start bytes b now → bad.at ≡ b.place → IsBadHeader b.rest bad.reason
     → PrintsTo start bytes (frames_ends.Bad bad) b now
 prints-bad start bytes b now bad p place is = (p.frames, given-stop bytes p.frames b bad.at bad.reason p.given place is, p.printed)
 
@@ -104,8 +87,8 @@ checked-none turns old start b e =
       room = omega (arith, ap length empty);
     }
 
-pub fed-whole : (start now : SinkState) (bytes piece : List ℕ) (b fed : Buffered) (taken : ℕ) → Prints start bytes b now → taken ≡ min (length piece) (buffer_length - length b.rest)
-    → length b.rest + length piece ≤ buffer_length → fed.rest ≡ b.rest ++ take taken piece → fed.place ≡ b.place → Prints start (bytes ++ piece) fed now
+pub fed-whole : (start now : SinkState) (bytes piece : List ℕ) (b fed : Buffered) (taken : ℕ) → PrintsFrames start bytes b now → taken ≡ min (length piece) (buffer_length - length b.rest)
+    → length b.rest + length piece ≤ buffer_length → fed.rest ≡ b.rest ++ take taken piece → fed.place ≡ b.place → PrintsFrames start (bytes ++ piece) fed now
 fed-whole start now bytes piece b fed taken p size room rest place =
     let all : take taken piece ≡ piece = take_all taken piece (omega (arith, size, room)) in
     record {
@@ -157,11 +140,11 @@ checked-part turns old start b after taken n mid new now then_is room x g fewer 
 
 -- what a report says
 
-pub all-written : (a c : SinkState) (text : List ℕ) (b : Bool) → b ≡ true → ReportsAll a text b c → Reports a text c
+pub all-written : (a c : SinkState) (text : List ℕ) (b : Bool) → b ≡ true → PrintsAll a text b c → Prints a text c
 all-written a c text true e r = r
 all-written a c text false e r = absurd (cc e)
 
-pub part-written : (a c : SinkState) (text : List ℕ) (b : Bool) → b ≡ false → ReportsAll a text b c → ReportsPart a text c
+pub part-written : (a c : SinkState) (text : List ℕ) (b : Bool) → b ≡ false → PrintsAll a text b c → PrintsPart a text c
 part-written a c text true e r = absurd (cc e)
 part-written a c text false e r = r
 
@@ -174,7 +157,7 @@ tells_check turns old new start mid after end status c told = record {
   given = c.given;
   by = c.by;
   told = elim told [
-    | inl t ↦ inl (t.0, reports-both start mid after (frame_lines 0 c.frames) (end_text end) c.printed t.1)
-    | inr t ↦ inr (t.0, part-behind start mid after (frame_lines 0 c.frames) (end_text end) c.printed t.1)
+    | inl t ↦ inl (t.0, prints-both start mid after (frame_lines 0 c.frames) (end_text end) true c.printed t.1)
+    | inr t ↦ inr (t.0, prints-both start mid after (frame_lines 0 c.frames) (end_text end) false c.printed t.1)
   ];
 }

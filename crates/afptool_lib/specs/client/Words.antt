@@ -1,39 +1,24 @@
 -- What the words of `client` say: as whom to log in, and where (this profile).
-use Rattle.std.specs.Prelude.{ℕ, ◌-◌, ◌==◌, ◌&&◌, nat_le, Bool, false, List, [], ◌∷◌, ◌++◌, length, replicate, codes, bytes_eq, if◌then◌else◌, Option, Some, None, option_map}
-use Rattle.std.specs.List.{list_any, before_first, after_first}
+use Rattle.std.specs.Prelude.{ℕ, Bool, false, List, [], ◌∷◌, codes, bytes_eq, if◌then◌else◌, Option, Some, None, option_and_then}
 use Rattle.clap.specs.Faults.{fault_of}
 use Rattle.clap.specs.Simple.{matches_of}
 use Rattle.clap.specs.Walk.{Row, first_of}
 use Rattle.clap.specs.declared.error.kind.ErrorKind.{ErrorKind}
-use Rattle.afp_base.specs.Limits.{password_size}
 use Rattle.afp_client.specs.declared.session.login.Login.{Login}
 use Rattle.afp_serial.specs.HouseFault.{is_name}
 use Rattle.afp_serial.specs.Limits.{longest_user}
+use Rattle.afpd_lib.specs.words.Users.{UserValue, user_in}
 use Rattle.afptool_lib.specs.client.Command.{client_app}
 use Rattle.afptool_lib.specs.declared.client.words.ClientWords.{ClientWords}
 
-abbrev pub colon : ℕ → Bool
-colon byte = byte == 58
-
--- What stands before the first colon is a name that a user of a house may have, and behind it stand at most 8 bytes.
-abbrev pub is_user : List ℕ → Bool
-is_user text = list_any colon text && (is_name longest_user (before_first colon text) && nat_le (length (after_first colon text)) password_size)
-
--- a password, filled with zeros
-abbrev pub filled : List ℕ → List ℕ
-filled password = password ++ replicate (password_size - length password) 0
-
--- the user's name and password
-abbrev pub user_in : List ℕ → Option (List ℕ × List ℕ)
-user_in text = if is_user text then Some (before_first colon text, filled (after_first colon text)) else None
-
-abbrev pub as_user : List ℕ × List ℕ → Login
-as_user user = record { user = Some user }
+-- the login of a user, where the name is one that a user of a house may have
+abbrev pub as_user : UserValue → Option Login
+as_user user = if is_name longest_user user.name then Some (record { user = Some (user.name, user.password) }) else None
 
 -- without a word for it, the login is a guest's
 abbrev pub login_in : Option (List ℕ) → Option Login
 login_in None = Some (record { user = None })
-login_in (Some text) = option_map as_user (user_in text)
+login_in (Some text) = option_and_then as_user (user_in text)
 
 -- both are there
 abbrev pub both_in : Option Login → Option (List ℕ) → Option ClientWords

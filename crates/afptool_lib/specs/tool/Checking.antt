@@ -3,9 +3,9 @@ use Rattle.std.specs.Prelude.{◌≡◌, ◌⊎◌, ℕ, zero, suc, ◌≤◌, �
 use Rattle.afp_base.specs.Counts.{CountsOn}
 use Rattle.afp_outside.specs.ends.Sink.{SinkState}
 use Rattle.afp_outside.specs.ends.Source.{SourceState, LastReadWithin, ReadWithin}
+use Rattle.afp_outside.specs.ends.Whole.{PrintsPart}
 use Rattle.dsi_frame.specs.Frame.{Frame}
 use Rattle.dsi_frame.specs.Stream.{Spelled, Framed, Stopped}
-use Rattle.afpd_lib.specs.server.Reporting.{ReportsPart}
 use Rattle.afptool_lib.specs.tool.Lines.{frame_lines, rest_line, bad_frame_line}
 use Rattle.afptool_lib.specs.tool.Telling.{Tells}
 use Rattle.afptool_lib.specs.declared.tool.checking.CheckEnd.{CheckEnd}
@@ -35,13 +35,13 @@ end_status ends.ReadFault = 4
 end_status ends.Spent = 8
 
 -- A write failed in the lines of frames that were read.
-pub record PrintsPart (start : SinkState) (bytes : List ℕ) (now : SinkState) : Type 0 where
+pub record PrintsFramesPart (start : SinkState) (bytes : List ℕ) (now : SinkState) : Type 0 where
   pub frames : List Frame
   pub filled : List ℕ
   pub more : List ℕ
   pub spelled : Spelled filled frames
   pub whole : bytes ≡ filled ++ more
-  pub printed : ReportsPart start (frame_lines 0 frames) now
+  pub printed : PrintsPart start (frame_lines 0 frames) now
 
 -- A write failed in the lines of frames that were read.
 pub record ChecksPart (turns : ℕ) (old new : SourceState) (start now : SinkState) : Type 0 where
@@ -49,7 +49,7 @@ pub record ChecksPart (turns : ℕ) (old new : SourceState) (start now : SinkSta
   pub given : new.given ≡ option_map (λ given. given ++ read) old.given
   pub within : LastReadWithin turns read old new
   pub faults : new.faults ≡ old.faults
-  pub printed : PrintsPart start read now
+  pub printed : PrintsFramesPart start read now
 
 -- A whole check: all is printed, and the status says how the stream ends; or a write failed in the last line.
 pub record TellsCheck (turns : ℕ) (old new : SourceState) (before after : SinkState) (status : ℕ) : Type 0 where

@@ -1,15 +1,14 @@
 //! Checking a stream of frames.
 ghost use Rattle.std.specs.Prelude.{◌≡◌, ◌+◌, ◌<◌, ◌≤◌, ◌^◌, ◌++◌, [], List, ℕ, length, false};
 ghost use Rattle.afp_outside.specs.ends.Sink.{SinkState};
+ghost use Rattle.afp_outside.specs.ends.Whole.{PrintsAll};
 ghost use Rattle.dsi_frame.specs.Buffered.{buffer_length};
-ghost use Rattle.afpd_lib.specs.server.Reporting.{ReportsAll};
 ghost use Rattle.afptool_lib.specs.tool.Checking.{end_text, end_status, RunsCheck};
-ghost use Rattle.afptool_lib.specs.tool.lemma.Checking.{ChecksTo, Prints, PrintsTo};
+ghost use Rattle.afptool_lib.specs.tool.lemma.Checking.{ChecksTo, PrintsFrames, PrintsTo};
 ghost use Rattle.afptool_lib.specs.tool.Telling.{Tells};
 
 use crate::tool::lines::{report_bad_frame, report_frame, report_rest};
-use afp_outside::{ReadResult, Sink, Source};
-use afpd_lib::server::report::report_all;
+use afp_outside::{ReadResult, Sink, Source, print_all};
 use dsi_frame::{BadFrame, Deframer, Head};
 use std::alloc::Global;
 
@@ -48,7 +47,7 @@ pub enum FramesEnd {
 
 /// Prints the whole frames at the front.
 fn print_frames<O: Sink>(deframer: &mut Deframer, out: &mut O) -> FramesEnd
-    ensures { (start : SinkState) (bytes : List ℕ) → Prints start bytes deframer.old (O.sink_state out.old)
+    ensures { (start : SinkState) (bytes : List ℕ) → PrintsFrames start bytes deframer.old (O.sink_state out.old)
         → PrintsTo start bytes result deframer.new (O.sink_state out.new) }
 {
     loop {
@@ -69,7 +68,7 @@ fn print_frames<O: Sink>(deframer: &mut Deframer, out: &mut O) -> FramesEnd
 fn take_piece<O: Sink>(deframer: &mut Deframer, out: &mut O, piece: &[u8]) -> FramesEnd
     requires total { deframer.old.place + length deframer.old.rest + length piece.now < 2 ^ 64 }
     requires room { length deframer.old.rest + length piece.now ≤ buffer_length }
-    ensures { (start : SinkState) (bytes : List ℕ) → Prints start bytes deframer.old (O.sink_state out.old)
+    ensures { (start : SinkState) (bytes : List ℕ) → PrintsFrames start bytes deframer.old (O.sink_state out.old)
         → PrintsTo start (bytes ++ piece.now) result deframer.new (O.sink_state out.new) }
 {
     deframer.feed(piece);
@@ -114,12 +113,12 @@ fn check_all<S: Source, O: Sink>(
 
 /// Prints how a stream ends. `false`: a write failed.
 fn report_end<O: Sink>(out: &mut O, end: CheckEnd) -> bool
-    ensures { ReportsAll (O.sink_state out.old) (end_text end) result (O.sink_state out.new) }
+    ensures { PrintsAll (O.sink_state out.old) (end_text end) result (O.sink_state out.new) }
 {
     match end {
         CheckEnd::Rest(rest) => report_rest(out, rest),
         CheckEnd::Bad(bad) => report_bad_frame(out, bad.at, bad.reason),
-        CheckEnd::ReadFault | CheckEnd::Spent => report_all(out, b""),
+        CheckEnd::ReadFault | CheckEnd::Spent => print_all(out, b""),
     }
 }
 

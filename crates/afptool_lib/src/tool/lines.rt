@@ -1,13 +1,13 @@
 //! The lines that are printed. They take no memory.
 ghost use Rattle.std.specs.Prelude.{◌≡◌, ◌≤◌, ◌++◌, ◌<◌, ◌+◌, ◌∷◌, [], length, drop, codes};
 ghost use Rattle.std.specs.Fmt.{decimal};
+ghost use Rattle.afp_outside.specs.ends.Whole.{PrintsAll};
 ghost use Rattle.dsi_frame.specs.Frame.{command_number};
-ghost use Rattle.afpd_lib.specs.server.Reporting.{ReportsAll};
 ghost use Rattle.afptool_lib.specs.tool.Parcelling.{parcel_line, shape_word};
 ghost use Rattle.afptool_lib.specs.tool.Lines.{hex_digit, hex_byte, same_line, got_word, differs_line, bad_line, kind_word, sizes_text, tally_line, drill_line, frame_line, rest_line, reason_word, bad_frame_line};
 
-use afp_outside::Sink;
-use afpd_lib::server::report::{put_before, put_number_before, report_all};
+use afp_outside::{Sink, print_all};
+use afpd_lib::server::report::{put_before, put_number_before};
 use apple_double::Shape;
 use capture_made::Tallied;
 use dsi_frame::{DsiCommand, Header, Reason};
@@ -52,11 +52,11 @@ fn put_same(line: &mut [u8], links: u64, entries: u64) -> usize
 
 /// Prints that a capture is the same.
 pub fn report_same<O: Sink>(out: &mut O, links: u64, entries: u64) -> bool
-    ensures { ReportsAll (O.sink_state out.old) (same_line links entries) result (O.sink_state out.new) }
+    ensures { PrintsAll (O.sink_state out.old) (same_line links entries) result (O.sink_state out.new) }
 {
     let mut line = [0; LINE];
     let start = put_same(&mut line, links, entries);
-    report_all(out, &line[start..])
+    print_all(out, &line[start..])
 }
 
 /// Puts the last two counts in a made capture at the end of the room.
@@ -90,11 +90,11 @@ fn put_tally(line: &mut [u8], tallied: &Tallied) -> usize
 
 /// Prints what is counted in a made capture.
 pub fn report_tally<O: Sink>(out: &mut O, tallied: &Tallied) -> bool
-    ensures { ReportsAll (O.sink_state out.old) (tally_line tallied.now) result (O.sink_state out.new) }
+    ensures { PrintsAll (O.sink_state out.old) (tally_line tallied.now) result (O.sink_state out.new) }
 {
     let mut line = [0; TALLY_LINE];
     let start = put_tally(&mut line, tallied);
-    report_all(out, &line[start..])
+    print_all(out, &line[start..])
 }
 
 /// Puts the last two counts of a drill at the end of the room.
@@ -126,11 +126,11 @@ fn put_drill(line: &mut [u8], commands: u32, breaks: u32, ok: u32, refused: u32)
 
 /// Prints what is counted in a drill.
 pub fn report_drill<O: Sink>(out: &mut O, commands: u32, breaks: u32, ok: u32, refused: u32) -> bool
-    ensures { ReportsAll (O.sink_state out.old) (drill_line commands breaks ok refused) result (O.sink_state out.new) }
+    ensures { PrintsAll (O.sink_state out.old) (drill_line commands breaks ok refused) result (O.sink_state out.new) }
 {
     let mut line = [0; LINE];
     let start = put_drill(&mut line, commands, breaks, ok, refused);
-    report_all(out, &line[start..])
+    print_all(out, &line[start..])
 }
 
 /// Puts the byte that stands there, or that none does.
@@ -165,11 +165,11 @@ fn put_differs(line: &mut [u8], link: u64, at: u64, want: u8, got: Option<u8>) -
 
 /// Prints where the output of a connection differs.
 pub fn report_differs<O: Sink>(out: &mut O, link: u64, at: u64, want: u8, got: Option<u8>) -> bool
-    ensures { ReportsAll (O.sink_state out.old) (differs_line link at want got) result (O.sink_state out.new) }
+    ensures { PrintsAll (O.sink_state out.old) (differs_line link at want got) result (O.sink_state out.new) }
 {
     let mut line = [0; LINE];
     let start = put_differs(&mut line, link, at, want, got);
-    report_all(out, &line[start..])
+    print_all(out, &line[start..])
 }
 
 /// Puts the line of a bad line.
@@ -185,11 +185,11 @@ fn put_bad_line(line: &mut [u8], number: u64) -> usize
 
 /// Prints which line is bad.
 pub fn report_bad_line<O: Sink>(out: &mut O, number: u64) -> bool
-    ensures { ReportsAll (O.sink_state out.old) (bad_line number) result (O.sink_state out.new) }
+    ensures { PrintsAll (O.sink_state out.old) (bad_line number) result (O.sink_state out.new) }
 {
     let mut line = [0; LINE];
     let start = put_bad_line(&mut line, number);
-    report_all(out, &line[start..])
+    print_all(out, &line[start..])
 }
 
 /// Puts whether a frame is a request or a reply.
@@ -251,11 +251,11 @@ fn put_frame(line: &mut [u8], at: u64, header: Header) -> usize
 
 /// Prints a frame that begins at a place.
 pub fn report_frame<O: Sink>(out: &mut O, at: u64, header: Header) -> bool
-    ensures { ReportsAll (O.sink_state out.old) (frame_line at header) result (O.sink_state out.new) }
+    ensures { PrintsAll (O.sink_state out.old) (frame_line at header) result (O.sink_state out.new) }
 {
     let mut line = [0; LINE];
     let start = put_frame(&mut line, at, header);
-    report_all(out, &line[start..])
+    print_all(out, &line[start..])
 }
 
 /// Puts the line of what is less than a frame.
@@ -271,11 +271,11 @@ fn put_rest(line: &mut [u8], rest: u64) -> usize
 
 /// Prints how many bytes are left, less than a frame.
 pub fn report_rest<O: Sink>(out: &mut O, rest: u64) -> bool
-    ensures { ReportsAll (O.sink_state out.old) (rest_line rest) result (O.sink_state out.new) }
+    ensures { PrintsAll (O.sink_state out.old) (rest_line rest) result (O.sink_state out.new) }
 {
     let mut line = [0; LINE];
     let start = put_rest(&mut line, rest);
-    report_all(out, &line[start..])
+    print_all(out, &line[start..])
 }
 
 /// Puts the word of a reason.
@@ -310,11 +310,11 @@ fn put_bad_frame(line: &mut [u8], at: u64, reason: Reason) -> usize
 
 /// Prints where a bad header stands, and why it is bad.
 pub fn report_bad_frame<O: Sink>(out: &mut O, at: u64, reason: Reason) -> bool
-    ensures { ReportsAll (O.sink_state out.old) (bad_frame_line at reason) result (O.sink_state out.new) }
+    ensures { PrintsAll (O.sink_state out.old) (bad_frame_line at reason) result (O.sink_state out.new) }
 {
     let mut line = [0; LINE];
     let start = put_bad_frame(&mut line, at, reason);
-    report_all(out, &line[start..])
+    print_all(out, &line[start..])
 }
 
 /// The word of a format.
@@ -344,9 +344,9 @@ fn put_parcel(line: &mut [u8], shape: Shape, data_size: u64, resource_size: u64)
 
 /// Prints the format of a parcel, and how many bytes its forks have.
 pub fn report_parcel<O: Sink>(out: &mut O, shape: Shape, data_size: u64, resource_size: u64) -> bool
-    ensures { ReportsAll (O.sink_state out.old) (parcel_line shape data_size resource_size) result (O.sink_state out.new) }
+    ensures { PrintsAll (O.sink_state out.old) (parcel_line shape data_size resource_size) result (O.sink_state out.new) }
 {
     let mut line = [0; LINE];
     let start = put_parcel(&mut line, shape, data_size, resource_size);
-    report_all(out, &line[start..])
+    print_all(out, &line[start..])
 }

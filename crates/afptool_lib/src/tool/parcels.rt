@@ -1,13 +1,12 @@
 //! A parcel, and what is told of it.
 ghost use Rattle.std.specs.Prelude.{◌≡◌, ◌<◌, ◌^◌};
-ghost use Rattle.afpd_lib.specs.server.Reporting.{ReportsAll};
+ghost use Rattle.afp_outside.specs.ends.Whole.{PrintsAll};
 ghost use Rattle.afptool_lib.specs.tool.Parcelling.{ComesTo, RunsParcel, parcel_status, parcel_text};
 ghost use Rattle.afptool_lib.specs.tool.lemma.Parcelling.{JudgesTo, ReadsTo};
 
 use crate::tool::lines::report_parcel;
 use afp_base::Bytes;
-use afp_outside::{ReadResult, Sink, Source};
-use afpd_lib::server::report::report_all;
+use afp_outside::{ReadResult, Sink, Source, print_all};
 use apple_double::{ParcelFault, Shape, read_parcel};
 use std::alloc::Global;
 
@@ -102,7 +101,7 @@ fn parcel_in<S: Source>(alloc: Global, source: &mut S, turns: u64) -> ParcelEnd
 
 /// Prints what the source came to. `false`: a write failed.
 fn report_end<O: Sink>(out: &mut O, end: ParcelEnd) -> bool
-    ensures { ReportsAll (O.sink_state out.old) (parcel_text end) result (O.sink_state out.new) }
+    ensures { PrintsAll (O.sink_state out.old) (parcel_text end) result (O.sink_state out.new) }
 {
     match end {
         ParcelEnd::Whole {
@@ -110,8 +109,8 @@ fn report_end<O: Sink>(out: &mut O, end: ParcelEnd) -> bool
             data_size,
             resource_size,
         } => report_parcel(out, shape, data_size, resource_size),
-        ParcelEnd::Bad => report_all(out, b"bad parcel\n"),
-        ParcelEnd::ReadFault | ParcelEnd::Spent | ParcelEnd::Memory => report_all(out, b""),
+        ParcelEnd::Bad => print_all(out, b"bad parcel\n"),
+        ParcelEnd::ReadFault | ParcelEnd::Spent | ParcelEnd::Memory => print_all(out, b""),
     }
 }
 

@@ -1,22 +1,21 @@
 //! Replaying a capture, and saying how it ended.
 ghost use Rattle.std.specs.Prelude.{◌≡◌, ◌<◌, ◌^◌, false};
+ghost use Rattle.afp_outside.specs.ends.Whole.{PrintsAll};
 ghost use Rattle.afptool_lib.specs.teller.Keepers.{AreFresh};
 ghost use Rattle.record_keeper.specs.Records.{steadily};
-ghost use Rattle.afpd_lib.specs.server.Reporting.{ReportsAll};
 ghost use Rattle.afptool_lib.specs.tool.Lines.{replay_text, replay_status};
 ghost use Rattle.afptool_lib.specs.tool.Tool.{RunsReplay};
 
 use crate::teller::NewKeepers;
 use crate::tool::lines::{report_bad_line, report_differs, report_same};
-use afp_outside::{Sink, Source};
-use afpd_lib::server::report::report_all;
+use afp_outside::{Sink, Source, print_all};
 use capture_log::{ReplayEnd, replay};
 use record_keeper::Keeper;
 use std::alloc::Global;
 
 /// Prints how a replay ended. `false`: a write failed.
 fn report_end<O: Sink>(out: &mut O, end: ReplayEnd) -> bool
-    ensures { ReportsAll (O.sink_state out.old) (replay_text end) result (O.sink_state out.new) }
+    ensures { PrintsAll (O.sink_state out.old) (replay_text end) result (O.sink_state out.new) }
 {
     match end {
         ReplayEnd::Same { links, entries, .. } => report_same(out, links, entries),
@@ -27,7 +26,7 @@ fn report_end<O: Sink>(out: &mut O, end: ReplayEnd) -> bool
             got,
         } => report_differs(out, link, at, want, got),
         ReplayEnd::BadCapture { line } => report_bad_line(out, line),
-        ReplayEnd::ReadFault | ReplayEnd::Spent | ReplayEnd::Memory => report_all(out, b""),
+        ReplayEnd::ReadFault | ReplayEnd::Spent | ReplayEnd::Memory => print_all(out, b""),
     }
 }
 

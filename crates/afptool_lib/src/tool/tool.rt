@@ -13,8 +13,7 @@ use crate::tool::made::{run_make, run_tally};
 use crate::tool::parcels::run_parcel;
 use crate::tool::replays::run_replay;
 use crate::tool::words::{Command, asked};
-use afp_outside::{Dialer, Sink, Source};
-use afpd_lib::server::report::report_all;
+use afp_outside::{Dialer, Sink, Source, print_all};
 use record_keeper::Keeper;
 use std::alloc::Global;
 
@@ -22,11 +21,7 @@ use std::alloc::Global;
 fn refuse<O: Sink>(out: &mut O) -> u8
     ensures { Tells bad_words 2 (O.sink_state out.old) (O.sink_state out.new) result }
 {
-    if report_all(out, b"bad words\n") {
-        2
-    } else {
-        5
-    }
+    if print_all(out, b"bad words\n") { 2 } else { 5 }
 }
 
 /// Does what the words ask that dials nothing, and gives the exit status.

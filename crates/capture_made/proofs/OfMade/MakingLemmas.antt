@@ -1,15 +1,14 @@
 -- What was written of a made capture, and what waits.
-use Rattle.std.proofs.Common.{◌≡◌, ℕ, ◌+◌, ◌-◌, ◌<◌, ◌≤◌, true, List, [], ◌∷◌, ◌++◌, suc, length, take, drop, refl, sym, ap, ◌∙◌, subst, append_assoc, arith, inl, inr}
-use Rattle.std.specs.Prelude.{Option, option_map}
-use Rattle.afp_base.proofs.Facts.{added-added, nothing-added}
-use Rattle.afp_base.proofs.ListFacts.{cut_at}
-use Rattle.afp_base.specs.Counts.{CountsOn}
-use Rattle.afp_outside.specs.ends.Sink.{SinkState, SinkTakes, SinkFails}
+use Rattle.std.proofs.Common.{◌≡◌, ℕ, ◌+◌, ◌<◌, ◌≤◌, true, false, List, [], ◌∷◌, ◌++◌, suc, refl, sym, ap, ◌∙◌, subst, append_assoc, arith, inl, inr}
+use Rattle.afp_base.proofs.Facts.{nothing-added}
+use Rattle.afp_outside.specs.ends.Sink.{SinkState}
+use Rattle.afp_outside.specs.ends.Whole.{Prints, PrintsPart}
+use Rattle.afp_outside.proofs.OfEnds.Whole.{prints-both}
 use Rattle.capture_log.specs.Taking.{HeldCapture, IsCapture}
 use Rattle.capture_log_server.specs.CaptureState.{CaptureState}
 use Rattle.capture_log_lines.specs.made.Lines.{ended_lines, house_lines, end_line}
 use Rattle.capture_made.specs.requests.Requests.{StepState, first_state, request_of}
-use Rattle.capture_made.specs.made.Making.{AreFirst, MakesBy, MakesPart, MakesSome, Writes, WritesPart}
+use Rattle.capture_made.specs.made.Making.{AreFirst, MakesBy, MakesPart, MakesSome}
 use Rattle.capture_made.specs.declared.made.making.MakeEnd.{MakeEnd}
 use Rattle.capture_made.specs.declared.made.making.MakeEnd.TheVariants as ends
 use Rattle.capture_made.specs.made.lemma.Adding.{Exchanged, FailedStep, FinishesBy, HasMade, HasRun, HasWritten, StepsBy, WritesFront, after_steps}
@@ -17,43 +16,12 @@ use Rattle.capture_made.proofs.OfMade.AddingLemmas.{ended-append, made, run-more
 
 -- writes, one after the other
 
-pub writes-none : (s : SinkState) → Writes s [] s
-writes-none s = record { written = nothing-added s.written; faults = refl }
+pub prints-none : (s : SinkState) → Prints s [] s
+prints-none s = record { written = nothing-added s.written; faults = refl }
 
-pub writes-join : (a b c : SinkState) (x y : List ℕ) → Writes a x b → Writes b y c → Writes a (x ++ y) c
-writes-join a b c x y r s = record {
-  written = s.written ∙ ap (λ (o : Option (List ℕ)). option_map (λ before. before ++ y) o) r.written ∙ added-added a.written x y;
-  faults = s.faults ∙ r.faults;
-}
-
-pub part-behind : (a b c : SinkState) (x y text : List ℕ) → x ++ y ≡ text → Writes a x b → WritesPart b y c → WritesPart a text c
-part-behind a b c x y text e r s = record {
-  part = x ++ s.part;
-  lost = s.lost;
-  cut = append_assoc x s.part s.lost ∙ ap (λ (l : List ℕ). x ++ l) s.cut ∙ e;
-  written = s.written ∙ ap (λ (o : Option (List ℕ)). option_map (λ before. before ++ s.part) o) r.written ∙ added-added a.written x s.part;
-  fault = subst (λ (n : ℕ). CountsOn 1 n c.faults) r.faults s.fault;
-}
-
-pub writes-more : (a b c : SinkState) (text sent left : List ℕ) (n : ℕ) → text ≡ sent ++ left → Writes a sent b → SinkTakes b left n c
-    → (x : List ℕ) × (text ≡ x ++ take (length left - n) (drop n left)) × Writes a x c
-writes-more a b c text sent left n split so_far w = (
-  sent ++ take n left,
-  split ∙ ap (λ (rest : List ℕ). sent ++ rest) (cut_at left n w.most) ∙ sym (append_assoc sent (take n left) (take (length left - n) (drop n left))),
-  record {
-    written = w.written ∙ ap (λ o. option_map (λ before. before ++ take n left) o) so_far.written ∙ added-added a.written sent (take n left);
-    faults = w.faults ∙ so_far.faults;
-  },
-)
-
-pub writes-failed : (a b c : SinkState) (text sent left : List ℕ) → text ≡ sent ++ left → Writes a sent b → SinkFails b c → WritesPart a text c
-writes-failed a b c text sent left split r f = record {
-  part = sent;
-  lost = left;
-  cut = sym split;
-  written = f.written ∙ r.written;
-  fault = subst (λ (n : ℕ). CountsOn 1 n c.faults) r.faults f.faults;
-}
+-- a write failed behind what was written
+part-behind : (a b c : SinkState) (x y text : List ℕ) → x ++ y ≡ text → Prints a x b → PrintsPart b y c → PrintsPart a text c
+part-behind a b c x y text e r s = subst (λ (t : List ℕ). PrintsPart a t c) e (prints-both a b c x y false r s)
 
 -- a step, and the text that is written behind it
 
@@ -78,7 +46,7 @@ pub written-front : (number count : ℕ) (start sink sink_then : SinkState) (cap
     → WritesFront sink held left true sink_then → HasWritten number count start capture left sink_then
 written-front number count start sink sink_then capture held left h (p, e, w) = record {
   part = h.part ++ p;
-  writes = writes-join start sink sink_then h.part p h.writes w;
+  writes = prints-both start sink sink_then h.part p true h.writes w;
   made = record {
     lines = h.made.lines;
     runs = h.made.runs;
@@ -87,7 +55,7 @@ written-front number count start sink sink_then capture held left h (p, e, w) = 
 }
 
 pub written-none : (number : ℕ) (start : SinkState) (capture : HeldCapture) (text : List ℕ) → HasMade number 0 capture text → HasWritten number 0 start capture text start
-written-none number start capture text h = record { part = []; writes = writes-none start; made = h }
+written-none number start capture text h = record { part = []; writes = prints-none start; made = h }
 
 -- the first lines of a capture
 
@@ -139,8 +107,8 @@ finished number steps start sink sink_then capture held ends.Done h f =
       lines = house_lines ++ (h.made.lines ++ end_line ∷ []);
       standing = t.0;
       made = made number steps h.made.runs.opened h.made.runs.now t.0 h.made.lines h.made.runs.house h.made.runs.exchanges t.1;
-      writes = subst (λ (x : List ℕ). Writes start x sink_then) (text-ends h.part held h.made.lines h.made.text_is)
-          (writes-join start sink sink_then h.part (held ++ ended_lines (end_line ∷ [])) h.writes t.2);
+      writes = subst (λ (x : List ℕ). Prints start x sink_then) (text-ends h.part held h.made.lines h.made.text_is)
+          (prints-both start sink sink_then h.part (held ++ ended_lines (end_line ∷ [])) true h.writes t.2);
     }
 finished number steps start sink sink_then capture held ends.WriteFault h f =
     let t = f h.made.runs.now h.made.runs.is in

@@ -1,7 +1,7 @@
 -- What making a capture, and counting in it, answers (this profile).
-use Rattle.std.specs.Prelude.{◌≡◌, ◌⊎◌, ℕ, ◌≤◌, List, [], ◌++◌, Some, option_map}
-use Rattle.afp_base.specs.Counts.{CountsOn}
+use Rattle.std.specs.Prelude.{◌≡◌, ◌⊎◌, ℕ, ◌≤◌, List, [], ◌++◌, Some}
 use Rattle.afp_outside.specs.ends.Sink.{SinkState}
+use Rattle.afp_outside.specs.ends.Whole.{Prints, PrintsPart}
 use Rattle.capture_log.specs.Standing.{nodes_of}
 use Rattle.capture_log_server.specs.CaptureState.{CaptureState, Leads, begins}
 use Rattle.capture_log_server.specs.Counting.{AreCaptureCounts}
@@ -11,19 +11,6 @@ use Rattle.capture_made.specs.made.Made.{Exchanges, IsMade}
 use Rattle.capture_made.specs.declared.made.making.MakeEnd.{MakeEnd}
 use Rattle.capture_made.specs.declared.made.making.MakeEnd.TheVariants as ends
 use Rattle.capture_made.specs.declared.made.counting.Tallied.{Tallied}
-
--- the whole text was written, and no write failed
-pub record Writes (old : SinkState) (text : List ℕ) (new : SinkState) : Type 0 where
-  pub written : new.written ≡ option_map (λ before. before ++ text) old.written
-  pub faults : new.faults ≡ old.faults
-
--- a first part of the text was written, and then a write failed, whose fault is counted
-pub record WritesPart (old : SinkState) (text : List ℕ) (new : SinkState) : Type 0 where
-  pub part : List ℕ
-  pub lost : List ℕ
-  pub cut : part ++ lost ≡ text
-  pub written : new.written ≡ option_map (λ before. before ++ part) old.written
-  pub fault : CountsOn 1 old.faults new.faults
 
 -- The house was made, and so many steps of those that are asked for, each request with its reply.
 pub record IsBegun (number steps : ℕ) (lines : List (List ℕ)) : Type 0 where
@@ -45,13 +32,13 @@ pub record WritesMade (number steps : ℕ) (old new : SinkState) : Type 0 where
   pub lines : List (List ℕ)
   pub standing : CaptureState
   pub made : IsMade number steps lines standing
-  pub writes : Writes old (ended_lines lines) new
+  pub writes : Prints old (ended_lines lines) new
 
 -- A first part of the capture was written, and then a write failed.
 pub record MakesPart (number steps : ℕ) (old new : SinkState) : Type 0 where
   pub lines : List (List ℕ)
   pub first : AreFirst number steps lines
-  pub writes : WritesPart old (ended_lines lines) new
+  pub writes : PrintsPart old (ended_lines lines) new
 
 -- a first part of the text of a capture
 pub record IsFront (number steps : ℕ) (part : List ℕ) : Type 0 where
@@ -64,7 +51,7 @@ pub record IsFront (number steps : ℕ) (part : List ℕ) : Type 0 where
 pub record MakesSome (number steps : ℕ) (old new : SinkState) : Type 0 where
   pub part : List ℕ
   pub front : (part ≡ []) ⊎ IsFront number steps part
-  pub writes : Writes old part new
+  pub writes : Prints old part new
 
 abbrev pub MakesBy : ℕ → ℕ → MakeEnd → SinkState → SinkState → Type 0
 MakesBy number steps ends.Done old new = WritesMade number steps old new

@@ -7,10 +7,9 @@ ghost use Rattle.capture_made.specs.made.Making.{MakesBy};
 ghost use Rattle.capture_made.specs.made.lemma.Adding.{FinishesBy, HasMade, MakesTo, StepsBy, WritesFront};
 
 use crate::made::adding::{add_connection, add_end, add_house, add_step};
-use crate::made::writing::write_text;
 use crate::requests::Steps;
 use afp_base::{Bytes, OutOfMemory};
-use afp_outside::Sink;
+use afp_outside::{Sink, print_all};
 use capture_log::Capture;
 use capture_log_server::TellerMaker;
 use std::alloc::Global;
@@ -97,7 +96,7 @@ fn write_long<O: Sink>(text: &mut Bytes, out: &mut O) -> bool
     if text.as_slice().len() < ROOM {
         return true;
     }
-    if !write_text(out, text.as_slice()) {
+    if !print_all(out, text.as_slice()) {
         return false;
     }
     text.truncate(0);
@@ -116,7 +115,7 @@ fn finish<M: TellerMaker, O: Sink>(
     let Ok(()) = add_end(capture, text) else {
         return MakeEnd::Memory;
     };
-    if write_text(out, text.as_slice()) {
+    if print_all(out, text.as_slice()) {
         MakeEnd::Done
     } else {
         MakeEnd::WriteFault

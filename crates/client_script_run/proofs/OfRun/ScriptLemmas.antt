@@ -3,6 +3,7 @@ use Rattle.std.proofs.Common.{◌≡◌, ℕ, List, [], ◌++◌, Option, Some, 
 use Rattle.afp_base.specs.declared.code.Code.{Code}
 use Rattle.afp_base.specs.declared.ids.VolumeId.{VolumeId}
 use Rattle.afp_outside.specs.ends.Sink.{SinkState}
+use Rattle.afp_outside.specs.ends.Whole.{Prints, PrintsPart}
 use Rattle.client_script_lines.specs.declared.lines.line.ScriptLine.{ScriptLine}
 use Rattle.client_script_lines.specs.declared.lines.line.ScriptLine.TheVariants as lines
 use Rattle.client_script_lines.specs.texts.Texts.{error_text, newline}
@@ -10,7 +11,6 @@ use Rattle.client_script_commands.specs.declared.parts.asker.Stop.TheVariants as
 use Rattle.client_script_commands.specs.parts.Parts.{Asked, Comes, Exchange, Leads, Part, Runs, Waits, bad, done, refuses}
 use Rattle.client_script_commands.specs.ls.Ls.{IsSaid}
 use Rattle.client_script_run.specs.line.Run.{Mounts, line_part, said_by}
-use Rattle.client_script_run.specs.run.Printing.{Prints, PrintsPart}
 use Rattle.client_script_run.specs.run.Script.{GoesBehind, TakesBye, TakesCut, TakesLine, TakesOn, TakesText, own, refusal}
 use Rattle.client_script_run.specs.declared.run.line.Taken.{Taken}
 use Rattle.client_script_run.specs.declared.run.line.Taken.TheVariants as takes

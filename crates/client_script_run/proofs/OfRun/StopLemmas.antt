@@ -9,6 +9,7 @@ use Rattle.afp_outside.specs.ends.Link.{LinkState}
 use Rattle.afp_outside.specs.ends.Sink.{SinkState}
 use Rattle.afp_outside.specs.ends.Source.{SourceState}
 use Rattle.afp_outside.specs.lines.Lines as Read
+use Rattle.afp_outside.specs.ends.Whole.{Prints, PrintsAll, PrintsPart}
 use Rattle.afp_client.specs.links.OnLink.{Start}
 use Rattle.afp_client.specs.declared.links.links.TalkEnd.TheVariants as talks
 use Rattle.afp_client.specs.declared.links.talk.Limit.{Limit}
@@ -25,7 +26,6 @@ use Rattle.client_script_run.specs.declared.asker.asker.AskEnd.{AskEnd}
 use Rattle.client_script_run.specs.declared.asker.asker.AskEnd.TheVariants as asks
 use Rattle.client_script_run.specs.run.Carried.{AreCarried, Carried, ReadsLine, exchanges_of, limits_behind, limits_with, line_limit, mounted_behind, printed_of, source_behind, unread_behind}
 use Rattle.client_script_run.specs.run.Ends.{end_of_ask, last_line}
-use Rattle.client_script_run.specs.run.Printing.{Prints, PrintsAll, PrintsPart}
 use Rattle.client_script_run.specs.run.Runs.{LeavesLinks, PrintsLines, PrintsWhole}
 use Rattle.client_script_run.specs.run.Script.{TakesRead, TakesText}
 use Rattle.client_script_run.specs.run.Stops.{AtBadReply, AtCall, AtEnd, AtWrite, Stood, Stops}
@@ -34,7 +34,7 @@ use Rattle.client_script_run.specs.declared.run.ends.ClientEnd.{ClientEnd}
 use Rattle.client_script_run.specs.declared.run.ends.ClientEnd.TheVariants as ends
 use Rattle.client_script_run.specs.declared.run.line.Taken.{Taken}
 use Rattle.client_script_run.specs.declared.run.line.Taken.TheVariants as takes
-use Rattle.client_script_run.proofs.OfRun.PrintLemmas.{prints-both}
+use Rattle.afp_outside.proofs.OfEnds.Whole.{prints-both}
 
 -- what was read for a line
 some-read : (turns : ℕ) (start : SourceState) (carried : List Carried) (cost : ℕ) (bytes : List ℕ) (unread : Read.Unread) (source : SourceState) → ReadsLine turns start carried cost bytes unread source

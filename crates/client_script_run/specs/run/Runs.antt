@@ -7,12 +7,12 @@ use Rattle.afp_outside.specs.ends.Dialer.{DialerState}
 use Rattle.afp_outside.specs.ends.Link.{LinkState}
 use Rattle.afp_outside.specs.ends.Sink.{SinkState}
 use Rattle.afp_outside.specs.ends.Source.{SourceState}
+use Rattle.afp_outside.specs.ends.Whole.{Prints, PrintsPart}
 use Rattle.afp_client.specs.links.OnLink.{Start}
 use Rattle.client_script_run.specs.asker.Standing.{Finishes, HasClosed, OpensNone, first_of}
 use Rattle.client_script_run.specs.declared.asker.asker.AskEnd.{AskEnd}
 use Rattle.client_script_run.specs.run.Carried.{AreCarried, Carried}
 use Rattle.client_script_run.specs.run.Ends.{end_of_ask, last_line}
-use Rattle.client_script_run.specs.run.Printing.{Prints, PrintsPart}
 use Rattle.client_script_run.specs.run.Stops.{Stood, Stops}
 use Rattle.client_script_run.specs.declared.run.ends.ClientEnd.{ClientEnd}
 use Rattle.client_script_run.specs.declared.run.ends.ClientEnd.TheVariants as ends

@@ -3,13 +3,13 @@ use Rattle.std.specs.Prelude.{◌≡◌, ℕ, List, ◌++◌, Option, Some, None
 use Rattle.afp_base.specs.declared.code.Code.{Code}
 use Rattle.afp_base.specs.declared.ids.VolumeId.{VolumeId}
 use Rattle.afp_outside.specs.ends.Sink.{SinkState}
+use Rattle.afp_outside.specs.ends.Whole.{Prints, PrintsPart}
 use Rattle.client_script_lines.specs.lines.Lines.{line_in}
 use Rattle.client_script_lines.specs.declared.lines.line.ScriptLine.{ScriptLine}
 use Rattle.client_script_lines.specs.declared.lines.line.ScriptLine.TheVariants as lines
 use Rattle.client_script_lines.specs.texts.Texts.{error_text, newline}
 use Rattle.client_script_commands.specs.parts.Parts.{Asked, Exchange, Leads, Part, Runs, Waits, bad, done, refuses, with_more}
 use Rattle.client_script_run.specs.line.Run.{line_part, mounted_by, said_by}
-use Rattle.client_script_run.specs.run.Printing.{Prints, PrintsPart}
 use Rattle.client_script_run.specs.declared.run.line.Printed.{Printed}
 use Rattle.client_script_run.specs.declared.run.line.Printed.TheVariants as prints
 use Rattle.client_script_run.specs.declared.run.line.Taken.{Taken}

@@ -3,9 +3,9 @@ ghost use Rattle.client_script_lines.specs.texts.Texts.{error_text};
 ghost use Rattle.client_script_run.specs.run.Script.{PrintsTold, TakesLine, TakesText};
 
 use crate::line::run_line;
-use crate::run::print::{line_of, print_all};
+use crate::run::print::line_of;
 use afp_base::{Bytes, Code, VolumeId};
-use afp_outside::Sink;
+use afp_outside::{Sink, print_all};
 use client_script_commands::{Asker, Stop};
 use client_script_lines::{LineFault, ScriptLine, error_text, read_line};
 use std::alloc::Global;

@@ -2,28 +2,14 @@
 ghost use Rattle.std.specs.Prelude.{◌≡◌, ◌++◌, IfOk};
 ghost use Rattle.std.specs.Fmt.{decimal, signed_decimal};
 ghost use Rattle.afp_base.specs.Code.{number_of};
+ghost use Rattle.afp_outside.specs.ends.Whole.{PrintsAll};
 ghost use Rattle.client_script_lines.specs.texts.Texts.{newline};
 ghost use Rattle.client_script_run.specs.run.Ends.{last_line, worded_line};
-ghost use Rattle.client_script_run.specs.run.Printing.{PrintsAll};
 
 use crate::run::ends::ClientEnd;
 use afp_base::{Bytes, Code, OutOfMemory};
-use afp_outside::{Sink, Wrote};
+use afp_outside::{Sink, print_all};
 use itoa::Buffer;
-
-/// Prints a whole text, in as many writes as it takes. `false`: a write failed, and what was printed is a first part of it.
-pub(crate) fn print_all<O: Sink>(out: &mut O, text: &[u8]) -> bool
-    ensures { PrintsAll (O.sink_state out.old) text.now result (O.sink_state out.new) }
-{
-    let mut left = text;
-    while !left.is_empty() {
-        match out.write(left) {
-            Wrote::Took(n) => left = &left[n..],
-            Wrote::Failed => return false,
-        }
-    }
-    true
-}
 
 /// A text with a newline behind it.
 pub(crate) fn line_of(text: Bytes) -> Result<Bytes, OutOfMemory>

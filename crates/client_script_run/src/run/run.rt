@@ -10,10 +10,10 @@ ghost use Rattle.client_script_run.specs.run.lemma.Taking.{PrintsSaid, RunsPrint
 use crate::asker::{AskEnd, LinkAsker, open_asker};
 use crate::run::ends::{ClientEnd, end_of_ask};
 use crate::run::line::{Taken, take_text};
-use crate::run::print::{print_all, print_end};
+use crate::run::print::print_end;
 use afp_base::{Bytes, OutOfMemory};
 use afp_client::{ClientCore, Login};
-use afp_outside::{Dialer, Lines, NextLine, Sink, Source};
+use afp_outside::{Dialer, Lines, NextLine, Sink, Source, print_all};
 use client_script_lines::LONGEST_LINE;
 use std::alloc::Global;
 

@@ -2,6 +2,7 @@
 use Rattle.std.proofs.Common.{◌≡◌, ◌≢◌, ◌∙◌, refl, sym, ap, subst, ℕ, ◌<◌, ◌≤◌, ◌^◌, Bool, true, false, List, [], ◌∷◌, ◌++◌, length, take, Option, Some, None, lit<, append-nil}
 use Rattle.std.specs.Prelude.{◌+◌, ◌==◌, if◌then◌else◌, unwrap_or}
 use Rattle.std.proofs.lemmas.Bool.{and_from, and_parts, eq-eqb}
+use Rattle.afp_base.specs.Limits.{payload_limit}
 use Rattle.afp_base.specs.declared.code.Code.{Code}
 use Rattle.afp_base.specs.declared.code.Code.TheVariants as code
 use Rattle.afp_calls_grammar.specs.grammar.Call.{canonical_data}
@@ -106,7 +107,7 @@ kind s w c block =
     (step (record s { waiting = None }) None (events.Told c block))
     refl refl
 
-reply-good : (f : Frame) (c : Code) (block : List ℕ) → IsGood f → length block ≤ 131072 → IsGood (reply_to f c block)
+reply-good : (f : Frame) (c : Code) (block : List ℕ) → IsGood f → length block ≤ payload_limit → IsGood (reply_to f c block)
 reply-good f c block good fits = record { id = good.id; word = small c; payload = fits; offset = tt }
 
 pub waiting-taken : WaitingIsTaken

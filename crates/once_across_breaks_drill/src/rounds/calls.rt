@@ -20,7 +20,7 @@ use capture_log_server::SoleTeller;
 use std::alloc::Global;
 
 /// The most bytes of a request's payload.
-const MOST: usize = MAX_PAYLOAD as usize;
+const MOST_PAYLOAD: usize = MAX_PAYLOAD as usize;
 
 /// A call fits in a frame. One that does not is told as want of memory.
 fn fits(alloc: Global, call: &Call) -> Result<(), OutOfMemory>
@@ -30,8 +30,8 @@ fn fits(alloc: Global, call: &Call) -> Result<(), OutOfMemory>
     let mut block = Bytes::new(alloc);
     let mut piece = Bytes::new(alloc);
     write_call(alloc, call, &mut block, &mut piece)?;
-    let rest = MOST.saturating_sub(block.as_slice().len());
-    if block.as_slice().len() <= MOST && piece.as_slice().len() <= rest {
+    let rest = MOST_PAYLOAD.saturating_sub(block.as_slice().len());
+    if block.as_slice().len() <= MOST_PAYLOAD && piece.as_slice().len() <= rest {
         Ok(())
     } else {
         Err(OutOfMemory)

@@ -3,6 +3,7 @@ use Rattle.std.specs.Prelude.{◌≡◌, ℕ, true, false, ◌+◌, ◌<◌, Lis
 use Rattle.afp_base.specs.declared.ids.LinkNumber.{LinkNumber}
 use Rattle.afp_outside.specs.ends.Gate.{Passed}
 use Rattle.afp_outside.specs.ends.Link.{LinkState}
+use Rattle.afp_outside.specs.ends.Whole.{Sends, SendsPart}
 use Rattle.afp_serial.specs.Shown.{Shown}
 use Rattle.afp_serial.specs.Went.{Step, Went}
 use Rattle.dsi_frame.specs.Buffered.{Buffered, buffer_length}
@@ -12,7 +13,6 @@ use Rattle.afp_server.specs.link.Passing.{GoThrough}
 use Rattle.afp_server.specs.link.lemma.Passing.{all_passed}
 use Rattle.dsi_frame.specs.Replies.{listed, spelling_of}
 use Rattle.afp_server.specs.link.Requests.{Requests, is_over, request_at, requests_after}
-use Rattle.afp_server.specs.link.lemma.Sending.{Sends, SendsPart}
 use Rattle.afp_server.specs.link.Trace.{Happening, events_in, frames_in, sent_in, steps_in, standing, begun, Cause, displaced, silent, drained, unwritten, Idled, Idles, Follows}
 use Rattle.afp_server.specs.declared.link.serve.LinkEnd.{LinkEnd}
 use Rattle.afp_server.specs.declared.link.serve.LinkEnd.TheVariants as links

@@ -2,24 +2,24 @@
 use Rattle.std.specs.Prelude.{◌≡◌, ℕ, ◌<◌, List, ◌++◌, length, option_map}
 use Rattle.afp_outside.specs.ends.Sink.{SinkState}
 use Rattle.afp_outside.specs.ends.Source.{SourceState, ReadWithin}
+use Rattle.afp_outside.specs.ends.Whole.{Prints}
 use Rattle.dsi_frame.specs.Buffered.{Buffered, buffer_length}
 use Rattle.dsi_frame.specs.Deframe.{GivenOut}
 use Rattle.dsi_frame.specs.Frame.{Frame}
 use Rattle.dsi_frame.specs.Stream.{Stopped, IsUnfinished}
-use Rattle.afpd_lib.specs.server.Reporting.{Reports}
 use Rattle.afptool_lib.specs.tool.Lines.{frame_lines}
 use Rattle.afptool_lib.specs.declared.tool.checking.CheckEnd.{CheckEnd}
 use Rattle.afptool_lib.specs.declared.tool.checking.CheckStop.{CheckStop}
 use Rattle.afptool_lib.specs.declared.tool.checking.CheckStop.TheVariants as stops
 use Rattle.afptool_lib.specs.declared.tool.checking.FramesEnd.{FramesEnd}
 use Rattle.afptool_lib.specs.declared.tool.checking.FramesEnd.TheVariants as frames_ends
-use Rattle.afptool_lib.specs.tool.Checking.{ChecksBy, ChecksPart, PrintsPart}
+use Rattle.afptool_lib.specs.tool.Checking.{ChecksBy, ChecksPart, PrintsFramesPart}
 
 -- The lines of the frames that were given out so far stand in the sink.
-pub record Prints (start : SinkState) (bytes : List ℕ) (b : Buffered) (now : SinkState) : Type 0 where
+pub record PrintsFrames (start : SinkState) (bytes : List ℕ) (b : Buffered) (now : SinkState) : Type 0 where
   pub frames : List Frame
   pub given : GivenOut bytes frames b
-  pub printed : Reports start (frame_lines 0 frames) now
+  pub printed : Prints start (frame_lines 0 frames) now
 
 -- A stream was read so far, and its frames were printed.
 pub record HasChecked (turns : ℕ) (old : SourceState) (start : SinkState) (b : Buffered) (taken : ℕ) (new : SourceState) (now : SinkState) : Type 0 where
@@ -29,7 +29,7 @@ pub record HasChecked (turns : ℕ) (old : SourceState) (start : SinkState) (b :
   pub ended : new.ended ≡ old.ended
   pub faults : new.faults ≡ old.faults
   pub many : taken ≡ length read
-  pub prints : Prints start read b now
+  pub prints : PrintsFrames start read b now
   pub unfinished : IsUnfinished b.rest
   pub room : length b.rest < buffer_length
 
@@ -39,13 +39,13 @@ pub record Checks (turns : ℕ) (old new : SourceState) (start now : SinkState) 
   pub frames : List Frame
   pub given : new.given ≡ option_map (λ given. given ++ read) old.given
   pub by : ChecksBy turns read old new frames end
-  pub printed : Reports start (frame_lines 0 frames) now
+  pub printed : Prints start (frame_lines 0 frames) now
 
 -- Whole frames at the front were printed, up to less than a frame, to a bad header, or to a write that failed.
 abbrev pub PrintsTo : SinkState → List ℕ → FramesEnd → Buffered → SinkState → Type 0
-PrintsTo start bytes frames_ends.More b now = Prints start bytes b now × IsUnfinished b.rest × (length b.rest < buffer_length)
-PrintsTo start bytes (frames_ends.Bad bad) b now = (frames : List Frame) × Stopped bytes frames bad.at bad.reason × Reports start (frame_lines 0 frames) now
-PrintsTo start bytes frames_ends.WriteFault b now = PrintsPart start bytes now
+PrintsTo start bytes frames_ends.More b now = PrintsFrames start bytes b now × IsUnfinished b.rest × (length b.rest < buffer_length)
+PrintsTo start bytes (frames_ends.Bad bad) b now = (frames : List Frame) × Stopped bytes frames bad.at bad.reason × Prints start (frame_lines 0 frames) now
+PrintsTo start bytes frames_ends.WriteFault b now = PrintsFramesPart start bytes now
 
 abbrev pub ChecksTo : ℕ → SourceState → SourceState → SinkState → SinkState → CheckStop → Type 0
 ChecksTo turns old new start now (stops.Ended end) = Checks turns old new start now end

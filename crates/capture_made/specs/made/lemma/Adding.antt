@@ -1,6 +1,7 @@
 -- Lines that are added to a capture, and to the text of it that was not written yet.
 use Rattle.std.specs.Prelude.{◌≡◌, ℕ, zero, suc, Bool, true, false, List, [], ◌∷◌, ◌++◌, Some}
 use Rattle.afp_outside.specs.ends.Sink.{SinkState}
+use Rattle.afp_outside.specs.ends.Whole.{Prints, PrintsPart}
 use Rattle.capture_log.specs.Standing.{nodes_of}
 use Rattle.capture_log.specs.Taking.{HeldCapture, IsCapture}
 use Rattle.capture_log_server.specs.CaptureState.{CaptureState, Leads, TakesGoodLine, begins}
@@ -9,7 +10,7 @@ use Rattle.capture_log_lines.specs.made.Lines.{ended_lines, house_lines, end_lin
 use Rattle.capture_made.specs.requests.Requests.{StepState, after, request_of, requests}
 use Rattle.capture_made.specs.declared.requests.request.Request.{Request}
 use Rattle.capture_made.specs.made.Made.{Exchanges}
-use Rattle.capture_made.specs.made.Making.{MakesPart, MakesSome, Writes, WritesPart}
+use Rattle.capture_made.specs.made.Making.{MakesPart, MakesSome}
 use Rattle.capture_made.specs.declared.made.making.MakeEnd.{MakeEnd}
 use Rattle.capture_made.specs.declared.made.making.MakeEnd.TheVariants as ends
 use Rattle.capture_made.specs.declared.made.counting.Tallied.{Tallied}
@@ -57,18 +58,13 @@ pub record HasMade (number count : ℕ) (capture : HeldCapture) (text : List ℕ
 -- A first part of it was written, and the rest waits.
 pub record HasWritten (number count : ℕ) (start : SinkState) (capture : HeldCapture) (held : List ℕ) (sink : SinkState) : Type 0 where
   pub part : List ℕ
-  pub writes : Writes start part sink
+  pub writes : Prints start part sink
   pub made : HasMade number count capture (part ++ held)
-
--- by the answer: whether all was written
-abbrev pub WritesBy : SinkState → List ℕ → Bool → SinkState → Type 0
-WritesBy old text true new = Writes old text new
-WritesBy old text false new = WritesPart old text new
 
 -- The text stays where it was not written, and is gone where it was.
 abbrev pub WritesFront : SinkState → List ℕ → List ℕ → Bool → SinkState → Type 0
-WritesFront old text left true new = (part : List ℕ) × (text ≡ part ++ left) × Writes old part new
-WritesFront old text left false new = WritesPart old text new
+WritesFront old text left true new = (part : List ℕ) × (text ≡ part ++ left) × Prints old part new
+WritesFront old text left false new = PrintsPart old text new
 
 -- A step was made, and its lines stand in the text, which may have been written.
 pub record MadeStep (steps : StepState) (capture : HeldCapture) (text : List ℕ) (old : SinkState) (steps_then : StepState) (new : HeldCapture) (left : List ℕ) (sink : SinkState) : Type 0 where
@@ -81,7 +77,7 @@ pub record MadeStep (steps : StepState) (capture : HeldCapture) (text : List ℕ
 pub record FailedStep (steps : StepState) (capture : HeldCapture) (text : List ℕ) (old : SinkState) (new : HeldCapture) (sink : SinkState) : Type 0 where
   pub middle : List ℕ
   pub exchanged : (s : CaptureState) → IsCapture capture s → Exchanged s (request_of steps ∷ []) text new middle
-  pub front : WritesPart old middle sink
+  pub front : PrintsPart old middle sink
 
 abbrev pub StepsBy : StepState → HeldCapture → List ℕ → SinkState → MakeEnd → StepState → HeldCapture → List ℕ → SinkState → Type 0
 StepsBy steps capture text old ends.Done steps_then new left sink = MadeStep steps capture text old steps_then new left sink
@@ -98,11 +94,11 @@ MakesTo number count old capture text ends.Memory new = MakesSome number count o
 pub record FailedEnd (s : CaptureState) (text : List ℕ) (old new : SinkState) : Type 0 where
   pub after : CaptureState
   pub good : TakesGoodLine s end_line after
-  pub part : WritesPart old (text ++ ended_lines (end_line ∷ [])) new
+  pub part : PrintsPart old (text ++ ended_lines (end_line ∷ [])) new
 
 -- the last line was added, and all text was written, by the answer
 abbrev pub FinishesBy : HeldCapture → List ℕ → SinkState → MakeEnd → SinkState → Type 0
-FinishesBy capture text old ends.Done new = (s : CaptureState) → IsCapture capture s → (t : CaptureState) × TakesGoodLine s end_line t × Writes old (text ++ ended_lines (end_line ∷ [])) new
+FinishesBy capture text old ends.Done new = (s : CaptureState) → IsCapture capture s → (t : CaptureState) × TakesGoodLine s end_line t × Prints old (text ++ ended_lines (end_line ∷ [])) new
 FinishesBy capture text old ends.WriteFault new = (s : CaptureState) → IsCapture capture s → FailedEnd s text old new
 FinishesBy capture text old ends.Memory new = new ≡ old
 

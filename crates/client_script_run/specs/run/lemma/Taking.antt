@@ -6,13 +6,13 @@ use Rattle.afp_outside.specs.ends.Link.{LinkState}
 use Rattle.afp_outside.specs.ends.Sink.{SinkState}
 use Rattle.afp_outside.specs.ends.Source.{SourceState}
 use Rattle.afp_outside.specs.lines.Lines as Read
+use Rattle.afp_outside.specs.ends.Whole.{Prints, PrintsPart}
 use Rattle.afp_client.specs.links.OnLink.{Start}
 use Rattle.afp_client.specs.declared.links.talk.Limit.{Limit}
 use Rattle.client_script_commands.specs.parts.Parts.{Exchange}
 use Rattle.client_script_run.specs.declared.asker.asker.AskEnd.{AskEnd}
 use Rattle.client_script_run.specs.run.Carried.{AreCarried, Carried, exchanges_of, limits_behind, mounted_behind, printed_of, source_behind, unread_behind}
 use Rattle.client_script_run.specs.run.Ends.{end_of_ask}
-use Rattle.client_script_run.specs.run.Printing.{Prints, PrintsPart}
 use Rattle.client_script_run.specs.run.Runs.{PrintsLines, Runs}
 use Rattle.client_script_run.specs.run.Stops.{Stood, Stops}
 use Rattle.client_script_run.specs.declared.run.ends.ClientEnd.{ClientEnd}

@@ -1,7 +1,7 @@
 use Rattle.std.proofs.Common.{subst, Bool, false, ◌++◌}
 use Rattle.client_script_lines.specs.texts.Texts.{newline}
-use Rattle.client_script_run.specs.run.Printing.{PrintsAll}
-use Rattle.client_script_run.proofs.OfRun.PrintLemmas.{prints-both, prints-cut}
+use Rattle.afp_outside.specs.ends.Whole.{PrintsAll}
+use Rattle.afp_outside.proofs.OfEnds.Whole.{prints-both, prints-cut}
 use Rattle.client_script_run.proofs.run.print.print_worded.Goals as goal
 
 pub returns-then-not-print_all : goal.returns-then-not-print_all

@@ -1,6 +1,6 @@
 use Rattle.std.proofs.Common.{Bool, subst}
 use Rattle.client_script_run.specs.run.Ends.{last_line}
-use Rattle.client_script_run.specs.run.Printing.{PrintsAll}
+use Rattle.afp_outside.specs.ends.Whole.{PrintsAll}
 use Rattle.client_script_run.proofs.OfRun.StopLemmas.{prints-end, prints-part}
 use Rattle.client_script_run.proofs.run.run.run_whole.Goals as goal
 
