@@ -1,2 +1,1 @@
-pub mod OfLog
 pub mod OfMade

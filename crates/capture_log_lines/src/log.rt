@@ -1,12 +1,9 @@
 //! The lines of a capture: the forms that they have, and what each says.
 
 mod event;
-mod hexadecimal;
 mod limits;
 mod line;
-mod number;
 mod read;
-mod words;
 
 pub use crate::log::limits::{LAST_LINK, LONGEST_LINE};
 pub use crate::log::line::{Line, What};

@@ -9,7 +9,8 @@ use Rattle.std.proofs.lemmas.Fmt.{first_decimal, decimal_digit, decimal_nonempty
 use Rattle.std.proofs.lemmas.Str.Parse.{IsDigitsTest, FoldsDigits, IsNumeralModel, numerals_by_fold}
 use Rattle.std.proofs.Math.Seq.{take-append_seam, drop-append_seam, drop-append-add}
 use Rattle.afp_base.proofs.Facts.{left_true, right_true, or-true}
-use Rattle.capture_log_lines.specs.log.Fields.{is_digit, is_decimal, is_space, value_behind, number_in}
+use Rattle.line_words.specs.Numbers.{is_digit, is_decimal, value_behind, number_in}
+use Rattle.line_words.specs.Words.{is_space}
 
 AreDigits : List ℕ → Type 0
 AreDigits ds = list_all is_digit ds ≡ true

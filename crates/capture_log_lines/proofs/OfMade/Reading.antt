@@ -11,7 +11,9 @@ use Rattle.hex.specs.Hex.{encode_lower, encode_with, lower_digits, decode_of, Is
 use Rattle.hex.proofs.HexLemmas.{decode_of-encode_lower, length-encode_with}
 use Rattle.afp_base.proofs.Facts.{bytes_same, left_true, right_true}
 use Rattle.afp_base.specs.Limits.{last_moment}
-use Rattle.capture_log_lines.specs.log.Fields.{is_lower_digit, is_space, hex_in, number_in}
+use Rattle.line_words.specs.Hexadecimal.{is_lower_digit, hex_in}
+use Rattle.line_words.specs.Numbers.{number_in}
+use Rattle.line_words.specs.Words.{is_space}
 use Rattle.capture_log_lines.specs.log.Lines.{link_in, what_in, moment_then, link_then, event_in, line_in, last_link, longest_line}
 use Rattle.capture_log_lines.specs.declared.log.line.Line.{Line}
 use Rattle.capture_log_lines.specs.declared.log.line.Line.TheVariants.{At}

@@ -1,9 +1,11 @@
 -- The forms of a capture's lines (docs/CAPTURES.md; this profile).
 use Rattle.afp_base.specs.Limits.{password_size, signature_size, token_key_size}
-use Rattle.std.specs.Prelude.{ℕ, ◌&&◌, nat_le, nat_lt, if◌then◌else◌, List, length, codes, bytes_eq, Option, Some, None, option_map}
+use Rattle.std.specs.Prelude.{ℕ, ◌==◌, ◌&&◌, nat_le, nat_lt, Bool, if◌then◌else◌, List, [], ◌∷◌, ◌++◌, length, drop, codes, bytes_eq, Option, Some, None, option_map}
 use Rattle.std.specs.List.{list_all, list_any, before_first, after_first}
 use Rattle.afp_base.specs.Limits.{last_moment}
-use Rattle.capture_log_lines.specs.log.Fields.{is_space, is_colon, is_ascii, is_text_word, number_in, hex_in, sized_in, filled}
+use Rattle.line_words.specs.Hexadecimal.{hex_in, sized_in}
+use Rattle.line_words.specs.Numbers.{number_in}
+use Rattle.line_words.specs.Words.{is_space, is_ascii, is_word}
 use Rattle.capture_log_lines.specs.declared.log.line.Line.{Line}
 use Rattle.capture_log_lines.specs.declared.log.line.Line.TheVariants as lines
 use Rattle.capture_log_lines.specs.declared.log.line.What.{What}
@@ -19,16 +21,23 @@ last_link = 1000
 
 -- a name: one word
 abbrev pub name_in : List ℕ → Option (List ℕ)
-name_in text = if is_text_word text then Some text else None
+name_in text = if is_word text then Some text else None
 
 -- afp-capture 1
 abbrev pub title_in : List ℕ → Option Line
 title_in rest = if bytes_eq rest (codes "1") then Some lines.Title else None
 
+abbrev pub is_colon : ℕ → Bool
+is_colon byte = byte == 58
+
+-- a password of at most 8 bytes, filled up with zero bytes
+abbrev pub filled : List ℕ → List ℕ
+filled password = password ++ drop (length password) (0 ∷ 0 ∷ 0 ∷ 0 ∷ 0 ∷ 0 ∷ 0 ∷ 0 ∷ [])
+
 -- NAME:PASSWORD, parted at the first colon; the password is ASCII of at most 8 bytes
 abbrev pub user_in : List ℕ → Option Line
 user_in text =
-    if is_text_word text && list_any is_colon text && list_all is_ascii (after_first is_colon text) && nat_le (length (after_first is_colon text)) password_size
+    if is_word text && list_any is_colon text && list_all is_ascii (after_first is_colon text) && nat_le (length (after_first is_colon text)) password_size
     then Some (lines.User (before_first is_colon text) (filled (after_first is_colon text)))
     else None
 

@@ -1,16 +1,15 @@
 //! What happened on a connection.
 ghost use Rattle.std.specs.Prelude.{◌≡◌, IfOk};
 ghost use Rattle.std.specs.List.{before_first, after_first};
-ghost use Rattle.capture_log_lines.specs.log.Fields.{is_space, number_in};
 ghost use Rattle.capture_log_lines.specs.log.Lines.{link_in, bytes_in, what_in, moment_then, event_in};
 ghost use Rattle.afp_base.specs.Limits.{last_moment};
+ghost use Rattle.line_words.specs.Numbers.{number_in};
+ghost use Rattle.line_words.specs.Words.{is_space};
 
-use crate::log::hexadecimal::bytes_of;
 use crate::log::limits::LAST_LINK;
 use crate::log::line::{Line, What};
-use crate::log::number::number;
-use crate::log::words::first_word;
 use afp_base::{Moment, OutOfMemory};
+use line_words::{first_word, hex_bytes, number};
 use std::alloc::Global;
 
 /// The number of a connection.
@@ -20,15 +19,18 @@ fn link_of(word: &[u8]) -> Option<u32>
     if word == b"0".as_slice() {
         return None;
     }
-    number(word, LAST_LINK)
+    match number(word, u64::from(LAST_LINK)) {
+        Some(link) => Some(link as u32),
+        None => None,
+    }
 }
 
 /// A moment.
 fn moment_of(word: &[u8]) -> Option<Moment>
     ensures { result ≡ number_in last_moment word.now }
 {
-    match number(word, Moment::LAST) {
-        Some(seconds) => Moment::new(seconds),
+    match number(word, u64::from(Moment::LAST)) {
+        Some(seconds) => Moment::new(seconds as u32),
         None => None,
     }
 }
@@ -38,10 +40,10 @@ fn bytes_moved(alloc: Global, word: &[u8], rest: &[u8]) -> Result<Option<What>, 
     ensures { IfOk result (λ what. what ≡ bytes_in word.now rest.now) }
 {
     if word == b"in".as_slice() {
-        return Ok(bytes_of(alloc, rest)?.map(What::In));
+        return Ok(hex_bytes(alloc, rest)?.map(What::In));
     }
     if word == b"out".as_slice() {
-        return Ok(bytes_of(alloc, rest)?.map(What::Out));
+        return Ok(hex_bytes(alloc, rest)?.map(What::Out));
     }
     Ok(None)
 }

@@ -1,14 +1,12 @@
 //! A line, read.
 ghost use Rattle.std.specs.Prelude.{◌≡◌, ◌≤◌, length, IfOk};
-ghost use Rattle.capture_log_lines.specs.log.Fields.{filled};
-ghost use Rattle.capture_log_lines.specs.log.Lines.{name_in, user_in, headed, line_in};
+ghost use Rattle.capture_log_lines.specs.log.Lines.{filled, name_in, user_in, headed, line_in};
 
 use crate::log::event::event;
-use crate::log::hexadecimal::{sixteen_of, thirty_two_of};
 use crate::log::limits::LONGEST_LINE;
 use crate::log::line::Line;
-use crate::log::words::{first_word, has_colon, is_ascii, is_word, parts_at_colon};
 use afp_base::{Bytes, OutOfMemory};
+use line_words::{first_word, has_byte, hex_array, is_ascii, is_word, parts_at};
 use std::alloc::Global;
 
 /// A name: one word.
@@ -36,10 +34,10 @@ fn filled(password: &[u8]) -> [u8; 8]
 fn user(alloc: Global, text: &[u8]) -> Result<Option<Line>, OutOfMemory>
     ensures { IfOk result (λ line. line ≡ user_in text.now) }
 {
-    if !is_word(text) || !has_colon(text) {
+    if !is_word(text) || !has_byte(text, b':') {
         return Ok(None);
     }
-    let (name, password) = parts_at_colon(text);
+    let (name, password) = parts_at(text, b':');
     if password.len() > 8 || !is_ascii(password) {
         return Ok(None);
     }
@@ -68,7 +66,7 @@ fn headed(alloc: Global, word: &[u8], rest: &[u8]) -> Result<Option<Line>, OutOf
         return Ok(name(alloc, rest)?.map(Line::Server));
     }
     if word == b"signature".as_slice() {
-        return Ok(sixteen_of(rest).map(Line::Signature));
+        return Ok(hex_array(rest).map(Line::Signature));
     }
     if word == b"user".as_slice() {
         return user(alloc, rest);
@@ -77,7 +75,7 @@ fn headed(alloc: Global, word: &[u8], rest: &[u8]) -> Result<Option<Line>, OutOf
         return Ok(name(alloc, rest)?.map(Line::Volume));
     }
     if word == b"key".as_slice() {
-        return Ok(thirty_two_of(rest).map(Line::Key));
+        return Ok(hex_array(rest).map(Line::Key));
     }
     Ok(None)
 }

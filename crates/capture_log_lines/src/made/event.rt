@@ -1,7 +1,5 @@
 //! What happened on a connection.
-ghost use Rattle.std.specs.Prelude.{◌≡◌, ◌≤◌, ◌<◌, ◌++◌, ◌+◌, ◌&&◌, ℕ, nat_lt, nat_le, true, Some, codes, length, drop, OnOk};
-ghost use Rattle.std.specs.Fmt.{decimal};
-ghost use Rattle.hex.specs.Hex.{encode_lower};
+ghost use Rattle.std.specs.Prelude.{◌≡◌, ◌≤◌, ◌<◌, ◌++◌, ◌+◌, ◌&&◌, ℕ, true, Some, codes, OnOk};
 ghost use Rattle.afp_base.specs.Limits.{last_moment};
 ghost use Rattle.capture_log_lines.specs.log.Lines.{last_link, line_in};
 ghost use Rattle.capture_log_lines.specs.declared.log.line.Line.{Line};
@@ -9,7 +7,7 @@ ghost use Rattle.capture_log_lines.specs.declared.log.line.What.{What};
 ghost use Rattle.capture_log_lines.specs.made.Lines.{event_line, has_room, in_line, out_line};
 
 use afp_base::{Bytes, Moment, OutOfMemory};
-use itoa::write_digits;
+use line_words::{put_hexadecimal, put_number};
 use std::alloc::Global;
 
 /// The most bytes that a line is written of: more than a frame has.
@@ -30,23 +28,6 @@ pub fn lines_are_read(bytes: &[u8])
         → line_in (out_line link now bytes.now) ≡ Some (Line.At link now (What.Out bytes.now)) }
 {}
 
-/// Appends a number in decimal.
-fn put_number(number: u64, out: &mut Bytes) -> Result<(), OutOfMemory>
-    ensures { OnOk result (out.new ≡ out.old ++ decimal number) }
-{
-    let mut room = [0; 20];
-    let start = write_digits(number, &mut room, 20);
-    out.extend(&room[start..])
-}
-
-/// Appends bytes in hexadecimal digits of lower case.
-fn put_hexadecimal(alloc: Global, bytes: &[u8], out: &mut Bytes) -> Result<(), OutOfMemory>
-    ensures { OnOk result (out.new ≡ out.old ++ encode_lower bytes.now) }
-{
-    let text = hex::encode(alloc, bytes)?;
-    out.extend(text.as_str().as_bytes())
-}
-
 /// Appends a line of bytes behind a word, without its newline.
 fn put_event(
     alloc: Global,
@@ -59,13 +40,13 @@ fn put_event(
     ensures { OnOk result (out.new ≡ out.old ++ event_line link now word.now bytes.now) }
 {
     out.extend(b"at ")?;
-    put_number(u64::from(link), out)?;
+    put_number(out, u64::from(link))?;
     out.extend(b" ")?;
-    put_number(u64::from(now.seconds()), out)?;
+    put_number(out, u64::from(now.seconds()))?;
     out.extend(b" ")?;
     out.extend(word)?;
     out.extend(b" ")?;
-    put_hexadecimal(alloc, bytes, out)
+    put_hexadecimal(alloc, out, bytes)
 }
 
 /// Appends the line of bytes that came on a connection, with its newline. An error may leave some of it.
