@@ -1,4 +1,2 @@
-pub mod Places
-pub mod Values
 pub mod Escapes
 pub mod Elements

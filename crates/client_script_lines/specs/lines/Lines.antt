@@ -1,11 +1,13 @@
 -- The forms of a script's lines (this profile).
-use Rattle.std.specs.Prelude.{ℕ, ◌^◌, nat_lt, if◌then◌else◌, List, length, codes, bytes_eq, Option, Some, None, option_map}
+use Rattle.std.specs.Prelude.{ℕ, ◌-◌, ◌^◌, nat_lt, is_some, if◌then◌else◌, List, length, codes, bytes_eq, Option, Some, None, option_map}
 use Rattle.std.specs.List.{before_first, after_first}
 use Rattle.client_script_lines.specs.declared.lines.line.ScriptLine.{ScriptLine}
 use Rattle.client_script_lines.specs.declared.lines.line.ScriptLine.TheVariants as lines
 use Rattle.client_script_lines.specs.declared.lines.read.Moves.{Moves}
 use Rattle.client_script_lines.specs.declared.lines.read.Range.{Range}
-use Rattle.client_script_lines.specs.lines.Words.{longest_line, is_space, is_path, is_deep_path, is_bytes, is_hex, is_text, is_number}
+use Rattle.client_script_lines.specs.lines.Words.{longest_line, is_path, is_deep_path, is_bytes, is_hex, is_text}
+use Rattle.line_words.specs.Numbers.{padded_number_in}
+use Rattle.line_words.specs.Words.{is_space}
 
 -- the word in front of the first space, and what stands behind that space
 abbrev pub first : List ℕ → List ℕ
@@ -34,21 +36,21 @@ hex_in word = if is_hex word then Some word else None
 abbrev pub text_in : List ℕ → Option (List ℕ)
 text_in word = if is_text word then Some word else None
 
--- a number below a limit
+-- a number of at most so much
 abbrev pub number_in : ℕ → List ℕ → Option (List ℕ)
-number_in limit word = if is_number limit word then Some word else None
+number_in most word = if is_some (padded_number_in most word) then Some word else None
 
 -- REFERENCE
 abbrev pub reference_in : List ℕ → Option (List ℕ)
-reference_in word = number_in (2 ^ 16) word
+reference_in word = number_in (2 ^ 16 - 1) word
 
 -- ID
 abbrev pub id_in : List ℕ → Option (List ℕ)
-id_in word = number_in (2 ^ 32) word
+id_in word = number_in (2 ^ 32 - 1) word
 
 -- FROM and LENGTH
 abbrev pub size_in : List ℕ → Option (List ℕ)
-size_in word = number_in (2 ^ 63) word
+size_in word = number_in (2 ^ 63 - 1) word
 
 -- PATH TARGET
 abbrev pub path_and_target : Option (List ℕ) → Option (List ℕ) → Option Moves

@@ -1,9 +1,11 @@
--- The words of a script's lines: escaped bytes, paths and decimal numbers (this profile).
-use Rattle.std.specs.Prelude.{ℕ, ◌+◌, ◌*◌, ◌-◌, ◌==◌, ◌&&◌, ◌||◌, nat_le, nat_lt, not, Bool, false, if◌then◌else◌, List, [], ◌∷◌, length, codes, bytes_eq, Option, Some, None, option_map, is_some, is_none}
-use Rattle.std.specs.List.{list_all, list_any, slice_split}
+-- The words of a script's lines: escaped bytes and paths (this profile).
+use Rattle.std.specs.Prelude.{ℕ, ◌==◌, ◌&&◌, ◌||◌, nat_le, not, Bool, false, if◌then◌else◌, List, [], ◌∷◌, length, codes, bytes_eq, Option, Some, None, option_map, is_some, is_none}
+use Rattle.std.specs.List.{list_all, slice_split}
 use Rattle.std.specs.Result.{result_ok}
-use Rattle.hex.specs.Hex.{decode_of, decode_sized}
+use Rattle.hex.specs.Hex.{decode_sized}
 use Rattle.afp_names.specs.Name.{name_fault}
+use Rattle.line_words.specs.Hexadecimal.{spelt}
+use Rattle.line_words.specs.Words.{is_word}
 
 -- the most bytes of a line (this profile)
 abbrev pub longest_line : ℕ
@@ -13,21 +15,11 @@ longest_line = 4096
 abbrev pub longest_text : ℕ
 longest_text = 255
 
-abbrev pub is_space : ℕ → Bool
-is_space byte = byte == 32
-
 abbrev pub is_slash : ℕ → Bool
 is_slash byte = byte == 47
 
 abbrev pub is_percent : ℕ → Bool
 is_percent byte = byte == 37
-
-abbrev pub is_digit : ℕ → Bool
-is_digit byte = nat_le 48 byte && nat_le byte 57
-
--- one word: it has a byte, and no space
-abbrev pub is_word : List ℕ → Bool
-is_word text = not (length text == 0) && not (list_any is_space text)
 
 -- a byte more before what a word stands for
 abbrev pub onto : ℕ → Option (List ℕ) → Option (List ℕ)
@@ -79,19 +71,6 @@ is_bytes word = is_word word && is_some (plain word)
 abbrev pub is_text : List ℕ → Bool
 is_text word = is_word word && is_short longest_text (plain word)
 
--- the bytes that hexadecimal digits of either case spell, two for each byte
-abbrev pub spelt : List ℕ → Option (List ℕ)
-spelt word = result_ok (decode_of word)
-
 -- hexadecimal digits, two for each byte
 abbrev pub is_hex : List ℕ → Bool
 is_hex word = not (length word == 0) && is_some (spelt word)
-
--- the number that digits spell behind a first part of this value
-abbrev pub value_behind : ℕ → List ℕ → ℕ
-value_behind value [] = value
-value_behind value (digit ∷ digits) = value_behind (value * 10 + (digit - 48)) digits
-
--- a number in decimal digits, below a limit
-abbrev pub is_number : ℕ → List ℕ → Bool
-is_number limit word = not (length word == 0) && list_all is_digit word && nat_lt (value_behind 0 word) limit

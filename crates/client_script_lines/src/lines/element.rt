@@ -4,11 +4,10 @@ ghost use Rattle.std.specs.List.{list_all, slice_split};
 ghost use Rattle.client_script_lines.specs.lines.Words.{is_hex, is_name, is_short, is_element, is_slash, is_deep_path, is_path, is_bytes, is_text, longest_text, plain};
 
 use crate::lines::escape::plain;
-use crate::lines::hexadecimal::spelt;
 use crate::lines::limits::LONGEST_TEXT;
-use crate::lines::words::{first_element, has_slash, is_word};
 use afp_base::{Bytes, OutOfMemory};
 use afp_names::{Name, NameFault};
+use line_words::{has_byte, is_word, parts_at, spelt};
 use std::alloc::Global;
 
 /// Whether bytes are a name.
@@ -38,10 +37,10 @@ fn are_elements(alloc: Global, text: &[u8]) -> Result<bool, OutOfMemory>
 {
     let mut left = text;
     loop {
-        if !has_slash(left) {
+        if !has_byte(left, b'/') {
             return is_element(alloc, left);
         }
-        let (element, rest) = first_element(left);
+        let (element, rest) = parts_at(left, b'/');
         if !is_element(alloc, element)? {
             return Ok(false);
         }

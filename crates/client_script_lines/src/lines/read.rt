@@ -1,5 +1,5 @@
 //! A line, read.
-ghost use Rattle.std.specs.Prelude.{◌≡◌, ◌<◌, ◌≤◌, ◌^◌, List, ℕ, None, Some, IfOk, if◌then◌else◌, Err};
+ghost use Rattle.std.specs.Prelude.{◌≡◌, List, ℕ, None, Some, IfOk, if◌then◌else◌, Err};
 ghost use Rattle.client_script_lines.specs.declared.lines.line.LineFault.{LineFault};
 ghost use Rattle.client_script_lines.specs.declared.lines.line.ScriptLine.TheVariants as lines;
 ghost use Rattle.client_script_lines.specs.lines.Lines.{path_in, target_in, bytes_in, hex_in, text_in, number_in, first, rest, moves_in, put_in, note_in, unpack_in, range_in, path_line, headed, line_in};
@@ -7,17 +7,16 @@ ghost use Rattle.client_script_lines.specs.lines.Lines.{path_in, target_in, byte
 use crate::lines::element::{is_bytes, is_deep_path, is_hex, is_path, is_text};
 use crate::lines::limits::LONGEST_LINE;
 use crate::lines::line::{LineFault, ScriptLine};
-use crate::lines::number::is_number;
-use crate::lines::words::first_word;
 use afp_base::{Bytes, OutOfMemory};
+use line_words::{first_word, padded_number};
 use std::alloc::Global;
 
-/// The numbers of open forks, node ids, and places in a fork lie below these limits.
-const REFERENCES: u64 = 1 << 16;
+/// The last number of an open fork, the last node id, and the last place in a fork.
+const LAST_REFERENCE: u64 = (1 << 16) - 1;
 
-const IDS: u64 = 1 << 32;
+const LAST_ID: u64 = (1 << 32) - 1;
 
-const SIZES: u64 = 1 << 63;
+const LAST_SIZE: u64 = (1 << 63) - 1;
 
 /// The word, where it has its form.
 fn word_if(alloc: Global, fits: bool, word: &[u8]) -> Result<Option<Bytes>, OutOfMemory>
@@ -66,13 +65,11 @@ fn text(alloc: Global, word: &[u8]) -> Result<Option<Bytes>, OutOfMemory>
     word_if(alloc, is_text(alloc, word)?, word)
 }
 
-/// A number below a limit.
-fn number(alloc: Global, word: &[u8], limit: u64) -> Result<Option<Bytes>, OutOfMemory>
-    requires least { 0 < limit }
-    requires most { limit ≤ 2 ^ 63 }
-    ensures { IfOk result (λ found. found ≡ number_in limit word.now) }
+/// A number of at most so much.
+fn number(alloc: Global, word: &[u8], most: u64) -> Result<Option<Bytes>, OutOfMemory>
+    ensures { IfOk result (λ found. found ≡ number_in most word.now) }
 {
-    word_if(alloc, is_number(word, limit), word)
+    word_if(alloc, padded_number(word, most).is_some(), word)
 }
 
 /// A path, and a target.
@@ -146,14 +143,14 @@ fn reference_and_sizes(alloc: Global, text: &[u8]) -> Result<Option<Range>, OutO
     ensures { IfOk result (λ found. found ≡ range_in text.now) }
 {
     let (word, more) = first_word(text);
-    let Some(reference) = number(alloc, word, REFERENCES)? else {
+    let Some(reference) = number(alloc, word, LAST_REFERENCE)? else {
         return Ok(None);
     };
     let (word, more) = first_word(more);
-    let Some(from) = number(alloc, word, SIZES)? else {
+    let Some(from) = number(alloc, word, LAST_SIZE)? else {
         return Ok(None);
     };
-    match number(alloc, more, SIZES)? {
+    match number(alloc, more, LAST_SIZE)? {
         Some(size) => Ok(Some(Range {
             reference,
             from,
@@ -267,10 +264,12 @@ fn headed(alloc: Global, word: &[u8], text: &[u8]) -> Result<Option<ScriptLine>,
         return Ok(reference_and_sizes(alloc, text)?.map(unlocked));
     }
     if word == b"drop".as_slice() {
-        return Ok(number(alloc, text, REFERENCES)?.map(|reference| ScriptLine::Drop { reference }));
+        return Ok(number(alloc, text, LAST_REFERENCE)?.map(|reference| ScriptLine::Drop {
+            reference,
+        }));
     }
     if word == b"find".as_slice() {
-        return Ok(number(alloc, text, IDS)?.map(|id| ScriptLine::Find { id }));
+        return Ok(number(alloc, text, LAST_ID)?.map(|id| ScriptLine::Find { id }));
     }
     if word == b"note".as_slice() {
         return note(alloc, text);

@@ -1,9 +1,9 @@
 //! Texts, with %XX for other bytes than letters, digits, `.`, `-` and `_`.
-ghost use Rattle.std.specs.Prelude.{◌≡◌, ◌++◌, ◌<◌, ◌∷◌, [], length, OnOk, IfOk};
-ghost use Rattle.hex.specs.Hex.{encode_lower};
+ghost use Rattle.std.specs.Prelude.{◌≡◌, ◌++◌, ◌<◌, length, OnOk, IfOk};
 ghost use Rattle.client_script_lines.specs.texts.Texts.{is_shown, shown, shown_byte};
 
 use afp_base::{Bytes, OutOfMemory, rest_of};
+use line_words::put_hexadecimal;
 use std::alloc::Global;
 
 fn is_shown(byte: u8) -> bool
@@ -17,23 +17,14 @@ fn is_shown(byte: u8) -> bool
         || byte == b'_'
 }
 
-/// The two hexadecimal digits of a byte.
-fn digits_of(alloc: Global, byte: u8) -> Result<Bytes, OutOfMemory>
-    ensures { IfOk result (λ digits. digits ≡ encode_lower (byte ∷ [])) }
-{
-    let digits = hex::encode(alloc, [byte])?;
-    Bytes::of(alloc, digits.as_bytes())
-}
-
 fn put_byte(alloc: Global, out: &mut Bytes, byte: u8) -> Result<(), OutOfMemory>
     ensures { OnOk result (out.new ≡ out.old ++ shown_byte byte) }
 {
     if is_shown(byte) {
         return out.extend(&[byte]);
     }
-    let digits = digits_of(alloc, byte)?;
     out.extend(b"%")?;
-    out.extend(digits.as_slice())
+    put_hexadecimal(alloc, out, &[byte])
 }
 
 /// Appends the first byte of a text, and gives the rest.

@@ -1,12 +1,11 @@
 //! The lines of commands.
 ghost use Rattle.std.specs.Prelude.{◌≡◌, ◌++◌, IfOk, OnOk};
-ghost use Rattle.hex.specs.Hex.{encode_lower};
 ghost use Rattle.client_script_lines.specs.texts.Texts.{entry_line, error_text, got_text, newline, numbered, packed_text, worded};
 
-use crate::texts::number::put_number;
 use crate::texts::shown::put_shown;
 use afp_base::{Bytes, Code, OutOfMemory};
 use itoa::Buffer;
+use line_words::{put_hexadecimal, put_number};
 use std::alloc::Global;
 
 /// A word and a number.
@@ -37,13 +36,6 @@ pub fn error_text(alloc: Global, code: Code) -> Result<Bytes, OutOfMemory>
     Ok(text)
 }
 
-fn put_digits(alloc: Global, out: &mut Bytes, bytes: &[u8]) -> Result<(), OutOfMemory>
-    ensures { OnOk result (out.new ≡ out.old ++ encode_lower bytes.now) }
-{
-    let digits = hex::encode(alloc, bytes)?;
-    out.extend(digits.as_bytes())
-}
-
 /// The bytes of a fork, in hexadecimal.
 pub fn got_text(alloc: Global, bytes: &[u8]) -> Result<Bytes, OutOfMemory>
     ensures { IfOk result (λ text. text ≡ got_text bytes.now) }
@@ -53,7 +45,7 @@ pub fn got_text(alloc: Global, bytes: &[u8]) -> Result<Bytes, OutOfMemory>
     }
     let mut text = numbered(alloc, b"got ", bytes.len() as u64)?;
     text.extend(b" ")?;
-    put_digits(alloc, &mut text, bytes)?;
+    put_hexadecimal(alloc, &mut text, bytes)?;
     Ok(text)
 }
 
@@ -63,7 +55,7 @@ pub fn packed_text(alloc: Global, bytes: &[u8]) -> Result<Bytes, OutOfMemory>
 {
     let mut text = numbered(alloc, b"packed ", bytes.len() as u64)?;
     text.extend(b" ")?;
-    put_digits(alloc, &mut text, bytes)?;
+    put_hexadecimal(alloc, &mut text, bytes)?;
     Ok(text)
 }
 

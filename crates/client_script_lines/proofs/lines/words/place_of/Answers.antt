@@ -1,8 +1,0 @@
-use Rattle.client_script_lines.proofs.OfLines.Places.{place_is, no_place}
-use Rattle.client_script_lines.proofs.lines.words.place_of.Goals as goal
-
-pub returns-in-Some : goal.returns-in-Some
-returns-in-Some c = place_is _ c.args.text.now c.in-Some.place c.in-Some.ensures
-
-pub returns-in-None : goal.returns-in-None
-returns-in-None c = no_place _ c.args.text.now c.in-None.ensures
