@@ -4,7 +4,7 @@ ghost use Rattle.client_script_commands.specs.commands.Drop.{drop};
 
 use crate::parts::{Asker, Stop, must_do, parts_end};
 use afp_base::{Bytes, ForkRef};
-use client_script_lines::calls as calls;
+use client_script_lines::calls;
 use std::alloc::Global;
 
 /// `drop REFERENCE`.

@@ -5,7 +5,7 @@ ghost use Rattle.client_script_commands.specs.commands.Find.{find};
 use crate::commands::replies::ask_name;
 use crate::parts::{Asker, Stop, parts_end};
 use afp_base::{Bytes, NodeId, VolumeId};
-use client_script_lines::{calls as calls, worded};
+use client_script_lines::{calls, worded};
 use std::alloc::Global;
 
 /// `find ID`.

@@ -6,7 +6,7 @@ ghost use Rattle.client_script_lines.specs.calls.Places.{IsPlace};
 use crate::commands::replies::ask_node;
 use crate::parts::{Asker, Stop, parts_end};
 use afp_base::{Bytes, VolumeId};
-use client_script_lines::{calls as calls, numbered};
+use client_script_lines::{calls, numbered};
 use std::alloc::Global;
 
 /// `mkdir PATH`.

@@ -6,7 +6,7 @@ ghost use Rattle.client_script_commands.specs.commands.Mount.{mount};
 use crate::commands::replies::ask_volume;
 use crate::parts::{Asker, Stop, parts_end};
 use afp_base::Bytes;
-use client_script_lines::{calls as calls, numbered};
+use client_script_lines::{calls, numbered};
 use std::alloc::Global;
 
 /// `mount VOLUME`.

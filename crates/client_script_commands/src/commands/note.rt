@@ -7,7 +7,7 @@ ghost use Rattle.client_script_lines.specs.calls.Places.{IsPlace};
 use crate::commands::replies::ask_desk;
 use crate::parts::{Asker, Stop, must_do, parts_end};
 use afp_base::{Bytes, VolumeId};
-use client_script_lines::calls as calls;
+use client_script_lines::calls;
 use std::alloc::Global;
 
 /// `note PATH TEXT`.

@@ -7,7 +7,7 @@ ghost use Rattle.client_script_lines.specs.calls.Places.{IsPlace, longest_place}
 use crate::commands::replies::ask_fork;
 use crate::parts::{Asker, Stop, in_fork, must_do, parts_end};
 use afp_base::{Bytes, VolumeId};
-use client_script_lines::{calls as calls, numbered};
+use client_script_lines::{calls, numbered};
 use std::alloc::Global;
 
 /// `put PATH BYTES`.

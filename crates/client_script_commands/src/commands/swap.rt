@@ -5,7 +5,7 @@ ghost use Rattle.client_script_lines.specs.calls.Places.{IsPlace};
 
 use crate::parts::{Asker, Stop, must_do, parts_end};
 use afp_base::{Bytes, VolumeId};
-use client_script_lines::calls as calls;
+use client_script_lines::calls;
 use std::alloc::Global;
 
 /// `swap PATH TARGET`.

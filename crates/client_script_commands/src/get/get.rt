@@ -6,7 +6,7 @@ ghost use Rattle.client_script_commands.specs.parts.Parts.{Comes};
 use crate::get::reads::read_fork;
 use crate::parts::{Asker, Stop, parts_end};
 use afp_base::{Bytes, VolumeId};
-use client_script_lines::{calls as calls, got_text};
+use client_script_lines::{calls, got_text};
 use std::alloc::Global;
 
 /// `get PATH`.

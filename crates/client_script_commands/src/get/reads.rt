@@ -14,7 +14,7 @@ use crate::parts::{Answer, Asker, Stop, ask, close_refused, must_do, parts_end};
 use afp_base::{Bytes, Code, ForkRef, OutOfMemory};
 use afp_calls_grammar::Call;
 use afp_replies::Reply;
-use client_script_lines::calls as calls;
+use client_script_lines::calls;
 use std::alloc::Global;
 
 /// What a read gave.

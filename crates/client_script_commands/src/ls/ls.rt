@@ -13,7 +13,7 @@ use crate::ls::rows::put_answer;
 use crate::parts::{Answer, Asker, Stop, parts_end};
 use afp_base::{Bytes, Code, VolumeId};
 use afp_calls_grammar::Call;
-use client_script_lines::{calls as calls, error_text, numbered};
+use client_script_lines::{calls, error_text, numbered};
 use std::alloc::Global;
 
 /// What a list gave.

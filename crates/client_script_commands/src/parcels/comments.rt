@@ -13,7 +13,7 @@ use afp_base::{Bytes, Code, OutOfMemory, VolumeId};
 use afp_calls_grammar::Call;
 use afp_replies::Reply;
 use apple_double::LONGEST_COMMENT;
-use client_script_lines::calls as calls;
+use client_script_lines::calls;
 use std::alloc::Global;
 
 /// The first bytes of a text, at most so many.

@@ -9,7 +9,7 @@ use crate::parcels::found::{Found, Shown, ask_found};
 use crate::parcels::printed::packed;
 use crate::parts::{Asker, Stop, parts_end};
 use afp_base::{Bytes, Code, VolumeId};
-use client_script_lines::{calls as calls, error_text};
+use client_script_lines::{calls, error_text};
 use std::alloc::Global;
 
 /// A file: its comment, its data fork, its resource fork.

@@ -11,7 +11,7 @@ use crate::parts::{Asker, Stop, in_fork, must_do, parts_end};
 use afp_base::{Bytes, OutOfMemory, VolumeId};
 use afp_calls_grammar::Call;
 use apple_double::Parcel;
-use client_script_lines::calls as calls;
+use client_script_lines::calls;
 use std::alloc::Global;
 
 /// Lets a call go.

@@ -12,7 +12,7 @@ use crate::parts::asker::{Answer, Asker, Stop};
 use afp_base::{Code, ForkRef};
 use afp_calls_grammar::Call;
 use afp_replies::Reply;
-use client_script_lines::calls as calls;
+use client_script_lines::calls;
 
 /// Lets a call go.
 fn let_go(_call: Call) {}

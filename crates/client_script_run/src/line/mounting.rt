@@ -14,7 +14,7 @@ use afp_bitmap::Values;
 use afp_calls_grammar::Call;
 use afp_replies::Reply;
 use client_script_commands::{Answer, Asker, Stop};
-use client_script_lines::{calls as calls, numbered};
+use client_script_lines::{calls, numbered};
 use std::alloc::Global;
 
 /// The volume that a reply opens.
