@@ -15,4 +15,5 @@ pub use crate::session::laws::{
     the_next_frame_decides, what_waits_is_kept,
 };
 pub use crate::session::login::Login;
+pub use crate::session::request::{fits_frame, put_call};
 pub use crate::session::stage::{OpeningStep, Stage};

@@ -4,13 +4,15 @@ use Rattle.std.specs.Prelude.{Option, Some, None, option_map, bytes_eq, if◌the
 use Rattle.std.specs.List.{before_first, after_first, list_any, list_all, slice_index}
 use Rattle.std.proofs.lemmas.Bool.{leb-true, and_parts}
 use Rattle.std.proofs.lemmas.Bool.Decides.{eqb_tells}
-use Rattle.capture_log_lines.specs.log.Fields.{is_space, is_colon, is_ascii, is_digit, is_text_word, is_decimal, number_in, sized_in, value_behind, filled}
-use Rattle.capture_log_lines.specs.log.Lines.{line_in, headed, event_in, title_in, name_in, user_in, link_in, link_then, moment_then, what_in, last_link, longest_line}
+use Rattle.line_words.specs.Hexadecimal.{sized_in}
+use Rattle.line_words.specs.Numbers.{is_digit, is_decimal, number_in, value_behind}
+use Rattle.line_words.specs.Words.{is_space, is_ascii, is_word}
+use Rattle.capture_log_lines.specs.log.Lines.{filled, is_colon, line_in, headed, event_in, title_in, name_in, user_in, link_in, link_then, moment_then, what_in, last_link, longest_line}
 use Rattle.afp_base.specs.Limits.{last_moment}
 use Rattle.capture_log_lines.specs.declared.log.line.Line.{Line}
 use Rattle.capture_log_lines.specs.declared.log.line.Line.TheVariants.{Title, Server, Signature, User as UserLine, Volume, Key, At, End}
 use Rattle.capture_log.specs.Taking.{IsLink, IsLinked}
-use Rattle.capture_log_lines.proofs.OfLog.Values.{value-least}
+use Rattle.line_words.proofs.Values.{value-least}
 
 -- something that may be read, if it names a connection that there may be
 abbrev IsGoodLine : Option Line → Type 0
@@ -85,7 +87,7 @@ link_good word rest (Some link) same = moment_good link (number_in last_moment (
 
 user_good : (text : List ℕ) → IsGoodLine (user_in text)
 user_good text =
-    if_good (is_text_word text && list_any is_colon text && list_all is_ascii (after_first is_colon text) && nat_le (length (after_first is_colon text)) 8)
+    if_good (is_word text && list_any is_colon text && list_all is_ascii (after_first is_colon text) && nat_le (length (after_first is_colon text)) 8)
     (Some (UserLine (before_first is_colon text) (filled (after_first is_colon text)))) None tt tt
 
 headed_good : (word rest : List ℕ) → IsGoodLine (headed word rest)

@@ -6,5 +6,8 @@ pub mod calls;
 mod lines;
 mod texts;
 
-pub use lines::{LONGEST_LINE, LONGEST_TEXT, LineFault, ScriptLine, plain, read_line};
+pub use lines::{
+    LAST_ID, LAST_PLACE, LAST_REFERENCE, LONGEST_LINE, LONGEST_TEXT, LineFault, ScriptLine, plain,
+    read_line,
+};
 pub use texts::{error_text, got_text, numbered, packed_text, put_entry, put_shown, worded};

@@ -7,6 +7,6 @@ mod line;
 mod read;
 
 pub use crate::lines::escape::plain;
-pub use crate::lines::limits::{LONGEST_LINE, LONGEST_TEXT};
+pub use crate::lines::limits::{LAST_ID, LAST_PLACE, LAST_REFERENCE, LONGEST_LINE, LONGEST_TEXT};
 pub use crate::lines::line::{LineFault, ScriptLine};
 pub use crate::lines::read::read_line;

@@ -3,11 +3,11 @@ ghost use Rattle.std.specs.Prelude.{IfOk};
 ghost use Rattle.afp_client.specs.session.Opening.{FitsLogin};
 
 use crate::link::LinkPlan;
-use crate::plan::{Plan, moment_of, small_number_of};
+use crate::plan::{Plan, moment_of};
 use afp_base::{Bytes, OutOfMemory};
 use afp_client::Login;
 use std::alloc::Global;
-use test_lines::lines::bytes_of;
+use test_lines::lines::{bytes_of, small_number_of};
 
 /// As whom a client logs in, its script, its links, and what is planned of its source, of its sink and of its dials.
 #[derive(Drop)]

@@ -1,22 +1,7 @@
 //! What is planned of calls.
 use afp_base::{Moment, OutOfMemory};
 use std::alloc::Global;
-
-/// The number of a word, 0 where it spells none.
-pub fn number_of(word: &str) -> u64 {
-    match word.parse::<u64>() {
-        Ok(number) => number,
-        Err(_) => 0,
-    }
-}
-
-/// The number below 2^32 of a word, 0 where it spells none.
-pub fn small_number_of(word: &str) -> u32 {
-    match word.parse::<u32>() {
-        Ok(number) => number,
-        Err(_) => 0,
-    }
-}
+use test_lines::lines::{number_of, small_number_of};
 
 /// The moment of so many seconds; the first one, where there is none.
 pub fn moment_of(word: &str) -> Moment {

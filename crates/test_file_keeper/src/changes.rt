@@ -3,12 +3,7 @@ use crate::line::Span;
 use afp_base::{Bytes, OutOfMemory};
 use record_keeper::{Change, RecordKey};
 use std::alloc::Global;
-use test_lines::lines::bytes_of;
-
-/// The bytes that hexadecimal digits spell; none, where they spell none.
-fn owned(alloc: Global, digits: &str) -> Result<Bytes, OutOfMemory> {
-    Bytes::of(alloc, bytes_of(alloc, digits).as_slice())
-}
+use test_lines::lines::owned;
 
 /// The key that hexadecimal digits spell.
 pub fn key_of(alloc: Global, digits: &str) -> Result<RecordKey, OutOfMemory> {

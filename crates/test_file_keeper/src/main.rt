@@ -4,7 +4,6 @@
 
 mod changes;
 mod line;
-mod result;
 mod run;
 mod words;
 

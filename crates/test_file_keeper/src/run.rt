@@ -1,7 +1,6 @@
 //! What comes of lines.
 use crate::changes::{fill, key_of, numbered, put, removal};
 use crate::line::{Kind, Line, Span, line_of};
-use crate::result::{LineResult, print_result};
 use crate::words::{fault_word, open_word, read_word};
 use afp_base::OutOfMemory;
 use record_keeper::{Change, Keeper, KeeperFault, Record, read_all};
@@ -10,6 +9,7 @@ use std::alloc::Global;
 use std::io::ErrorKind;
 use std::{io, mem};
 use test_lines::TakesLines;
+use test_lines::lines::{LineResult, print_result};
 
 /// The keeper of the open file, and the changes that the next commit makes.
 #[derive(Drop)]

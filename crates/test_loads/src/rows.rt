@@ -2,18 +2,13 @@
 use crate::line::{Kind, Line};
 use afp_base::{Bytes, OutOfMemory};
 use std::alloc::Global;
-use test_lines::lines::bytes_of;
+use test_lines::lines::owned;
 use volume_keeper_records::{
     Appl, Comment, ForkBlock, Head, Icon, Node, Privileges, TableRow, VERSION, guest_privileges,
 };
 
 /// The older version, whose nodes have no owner, group and rights.
 const OLD_VERSION: u16 = 1;
-
-/// The bytes that hexadecimal digits spell; none, where they spell none.
-pub fn owned(alloc: Global, digits: &str) -> Result<Bytes, OutOfMemory> {
-    Bytes::of(alloc, bytes_of(alloc, digits).as_slice())
-}
 
 /// A head of zeros of a version, with this next id.
 fn head(version: u16, next_id: u32) -> TableRow {

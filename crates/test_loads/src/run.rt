@@ -1,11 +1,12 @@
 //! What comes of lines.
 use crate::desktop::of_creator;
 use crate::line::{Kind, Line, line_of};
-use crate::rows::{appl_of, code_at, icon_of, node, owned, row_of};
+use crate::rows::{appl_of, code_at, icon_of, node, row_of};
 use afp_base::{Moment, OutOfMemory};
 use afp_names::Name;
 use record_keeper::{Change, Keeper, KeeperFault, MemoryKeeper, Record, RecordKey, read_all};
 use std::alloc::Global;
+use test_lines::lines::owned;
 use test_lines::{AnswersLines, LineResult};
 use volume_edits::WholeVolume;
 use volume_keeper::{LoadFault, load};

@@ -2,7 +2,7 @@
 use afp_base::{Bytes, OutOfMemory};
 use apple_double::{Parcel, ParcelFault, Shape, parcel_size, read_parcel, write_parcel};
 use std::alloc::Global;
-use test_lines::lines::{AnswersLines, LineResult, bytes_of, word_at};
+use test_lines::lines::{AnswersLines, LineResult, bytes_of, digits_of, word_at};
 
 /// Lines of bytes that are read as a parcel.
 #[derive(Drop)]
@@ -13,14 +13,6 @@ fn shape_word(shape: Shape) -> &'static str {
         Shape::Single => "single",
         Shape::Double => "double",
     }
-}
-
-/// Bytes in hexadecimal digits, `-` where there are none.
-fn digits_of(alloc: Global, bytes: &[u8]) -> Result<String, OutOfMemory> {
-    if bytes.is_empty() {
-        return Ok(String::from_str(alloc, "-")?);
-    }
-    Ok(hex::encode(alloc, bytes)?)
 }
 
 /// A comment in hexadecimal digits, `none` where there is none.

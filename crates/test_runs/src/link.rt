@@ -3,13 +3,14 @@ ghost use Rattle.std.specs.Prelude.{IfOk};
 ghost use Rattle.afp_outside.specs.ends.Tape.{IsFreshTape};
 
 use crate::gate::CountingGate;
-use crate::numbers::{digits_of, moment_of, moments_of, numbers_of, owned, sizes_of};
+use crate::numbers::{moment_of, moments_of, numbers_of, sizes_of};
 use crate::one_session::OneSession;
 use afp_base::OutOfMemory;
 use afp_outside::{OpenGate, TapeLink};
 use afp_serial::House;
 use afp_server::{LinkEnd, LinkRoom, serve_link};
 use std::alloc::Global;
+use test_lines::lines::{digits_of, owned};
 
 /// A server `Mac` with one volume.
 fn house(alloc: Global) -> Result<House, OutOfMemory> {

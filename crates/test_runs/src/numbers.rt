@@ -1,15 +1,7 @@
 //! Lists of numbers.
-use afp_base::{Bytes, Moment, OutOfMemory};
+use afp_base::{Moment, OutOfMemory};
 use std::alloc::Global;
-use test_lines::lines::bytes_of;
-
-/// The number of a word, 0 where it spells none.
-pub fn number_of(word: &str) -> u64 {
-    match word.parse::<u64>() {
-        Ok(number) => number,
-        Err(_) => 0,
-    }
-}
+use test_lines::lines::number_of;
 
 /// Appends a number, as often as is told behind a `*`.
 fn append(part: &str, numbers: &mut Vec<u64>) -> Result<(), OutOfMemory> {
@@ -59,17 +51,4 @@ pub fn moments_of(alloc: Global, list: &str) -> Result<Vec<Moment>, OutOfMemory>
         moments.push(moment_of(*seconds))?;
     }
     Ok(moments)
-}
-
-/// The bytes that hexadecimal digits spell; none for `-`.
-pub fn owned(alloc: Global, digits: &str) -> Result<Bytes, OutOfMemory> {
-    Bytes::of(alloc, bytes_of(alloc, digits).as_slice())
-}
-
-/// Bytes in hexadecimal digits, `-` where there are none.
-pub fn digits_of(alloc: Global, bytes: &[u8]) -> Result<String, OutOfMemory> {
-    if bytes.is_empty() {
-        return Ok(String::from_str(alloc, "-")?);
-    }
-    Ok(hex::encode(alloc, bytes)?)
 }

@@ -2,7 +2,7 @@
 ghost use Rattle.std.specs.Prelude.{◌≡◌, ◌<◌, false, All, IfOk};
 ghost use Rattle.afp_outside.specs.ends.Tape.{IsFreshTape};
 
-use crate::numbers::{digits_of, moment_of, number_of, numbers_of, owned, sizes_of};
+use crate::numbers::{moment_of, numbers_of, sizes_of};
 use afp_base::OutOfMemory;
 use afp_outside::{OpenGate, TapeClock, TapeLink, TapeListener, TapeSink};
 use afpd_lib::server::server::{Finish, afpd};
@@ -11,7 +11,7 @@ use record_keeper::{Keeper, MemoryKeeper};
 use std::alloc::Global;
 use std::sync::Wait;
 use std::thread::Threads;
-use test_lines::lines::bytes_of;
+use test_lines::lines::{bytes_of, digits_of, number_of, owned};
 
 /// A link that waits: the most bytes of each read, and what comes.
 #[derive(Drop)]

@@ -4,7 +4,6 @@ ghost use Rattle.afp_calls_grammar.specs.grammar.Call.{IsSpellable};
 ghost use Rattle.test_scripts.specs.Exchanged.{zipped};
 
 use crate::asked::kind_of;
-use crate::text::digits_of;
 use afp_base::{Bytes, Code, OutOfMemory};
 use afp_calls::write_call;
 use afp_calls_grammar::Call;
@@ -12,6 +11,7 @@ use afp_replies::{Reply, ReplyFault, read_reply};
 use client_script_commands::{Answer, Asker};
 use ghost_log::{Log, Notes};
 use std::alloc::Global;
+use test_lines::lines::digits_of;
 
 /// Exchanges in the order in which they came, which only proofs read.
 #[derive(Drop)]

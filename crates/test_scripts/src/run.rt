@@ -3,15 +3,16 @@ ghost use Rattle.std.specs.Prelude.{◌≡◌, ◌<◌, ◌≤◌, true, length,
 ghost use Rattle.client_script_lines.specs.calls.Places.{IsPlace};
 
 use crate::fake::{Fake, FakeEnd, Given};
-use crate::text::{code_of, owned};
+use crate::text::code_of;
 use afp_base::{Bytes, ForkRef, NodeId, OutOfMemory, VolumeId};
 use afp_names::{Path, UTF8_NAMES};
 use client_script_commands::get::get::get;
 use client_script_commands::ls::ls::ls;
 use client_script_commands::parcels::pack::pack;
 use client_script_commands::parcels::unpack::unpack;
-use client_script_commands::{Stop, commands as commands};
+use client_script_commands::{Stop, commands};
 use std::alloc::Global;
+use test_lines::lines::owned;
 use test_lines::{AnswersLines, LineResult, number_at, small_number_at, word_at};
 
 /// Lines of commands.

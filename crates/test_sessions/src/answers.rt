@@ -1,9 +1,10 @@
 //! The answers that a session keeps.
-use crate::text::{digits_of, long_of, owned, short_of};
+use crate::text::short_of;
 use afp_base::{Code, OutOfMemory};
 use replay_cache::{Answer, Cache, Request};
 use std::alloc::Global;
 use test_lines::LineResult;
+use test_lines::lines::{digits_of, owned, small_number_of};
 
 /// The answer, its code and its block.
 fn answer_text(alloc: Global, answer: &Answer) -> Result<String, OutOfMemory> {
@@ -25,7 +26,7 @@ pub fn kept(
     let found = cache.find(
         short_of(id),
         *kind == "write",
-        long_of(offset),
+        small_number_of(offset),
         payload.as_slice(),
     );
     match found {
@@ -53,7 +54,7 @@ pub fn keep(
     let request = Request {
         id: short_of(id),
         write: *kind == "write",
-        offset: long_of(offset),
+        offset: small_number_of(offset),
         payload: owned(alloc, payload)?,
     };
     let answer = Answer {

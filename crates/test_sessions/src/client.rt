@@ -2,12 +2,13 @@
 ghost use Rattle.std.specs.Prelude.{IfOk, IfSome};
 ghost use Rattle.afp_client.specs.session.Opening.{FitsLogin};
 
-use crate::text::{digits_of, owned, short_of};
+use crate::text::short_of;
 use afp_base::{Bytes, OutOfMemory, VolumeId};
 use afp_calls_grammar::Call;
 use afp_client::{ClientCore, Event, Login};
 use std::alloc::Global;
 use test_lines::LineResult;
+use test_lines::lines::{digits_of, owned};
 
 /// A user's name and password, where they are one.
 fn login_of(alloc: Global, name: &str, password: &str) -> Result<Option<Login>, OutOfMemory>

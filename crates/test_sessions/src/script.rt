@@ -1,9 +1,8 @@
 //! The lines of a script.
-use crate::text::digits_of;
 use afp_base::{Bytes, OutOfMemory};
 use client_script_lines::{LineFault, ScriptLine, read_line};
 use std::alloc::Global;
-use test_lines::lines::{LineResult, bytes_of};
+use test_lines::lines::{LineResult, bytes_of, digits_of};
 
 /// Appends a word as it stands in the line.
 fn put_word(alloc: Global, text: &mut String, word: &Bytes) -> Result<(), OutOfMemory> {

@@ -1,5 +1,5 @@
 //! A request that waits for its reply.
-ghost use Rattle.std.specs.Prelude.{[], ◌≡◌, ◌+◌, ◌<◌, ◌≤◌, ◌++◌, length, is_some, IfOk, OnOk, OnErr};
+ghost use Rattle.std.specs.Prelude.{[], ◌≡◌, ◌+◌, ◌<◌, ◌≤◌, ◌++◌, length, nat_le, is_some, IfOk, OnOk, OnErr};
 ghost use Rattle.afp_base.specs.Limits.{payload_limit};
 ghost use Rattle.dsi_frame.specs.Frame.{WordFits, canonical_frame, frame_of};
 ghost use Rattle.afp_calls_grammar.specs.grammar.Call.{IsSpellable, canonical_call, canonical_data, canonical_piece};
@@ -7,12 +7,34 @@ ghost use Rattle.afp_client.specs.session.State.{call_frame};
 ghost use Rattle.afp_client.specs.session.lemma.Requests.{call_header};
 ghost use Rattle.afp_client.specs.session.Takes.{answers, most_retries, with_id};
 
-use afp_base::{Bytes, OutOfMemory};
+use afp_base::{Bytes, MAX_PAYLOAD, OutOfMemory};
 use afp_calls::write_call;
 use afp_calls_grammar::Call;
 use dsi_frame::{DsiCommand, Header, write_frame};
 use std::alloc::Global;
 use std::marker::Model;
+
+/// Whether a frame can carry the bytes of a call. The one error is want of memory.
+pub fn fits_frame(alloc: Global, call: &Call) -> Result<bool, OutOfMemory>
+    requires { IsSpellable call.now }
+    ensures { IfOk result (λ fits. fits ≡ nat_le (length (canonical_call call.now) + length (canonical_piece call.now)) payload_limit) }
+{
+    let mut block = Bytes::new(alloc);
+    let mut piece = Bytes::new(alloc);
+    write_call(alloc, call, &mut block, &mut piece)?;
+    Ok(block.as_slice().len() + piece.as_slice().len() <= MAX_PAYLOAD as usize)
+}
+
+/// Appends the frame of a call's request, with this id. An error changes nothing.
+pub fn put_call(alloc: Global, id: u16, call: &Call, out: &mut Bytes) -> Result<(), OutOfMemory>
+    requires spellable { IsSpellable call.now }
+    requires fits { length (canonical_call call.now) + length (canonical_piece call.now) ≤ payload_limit }
+    ensures ok { OnOk result (out.new ≡ out.old ++ canonical_frame (call_frame id call.now)) }
+    ensures err { OnErr result (out.new ≡ out.old) }
+{
+    let request = Request::of(alloc, id, call)?;
+    request.write(id, out)
+}
 
 /// Whether a call has data, so that it comes in a Write frame.
 #[tactic(auto, unfolding(afp_calls_grammar::specs::grammar::Call::canonical_data))]

@@ -1,6 +1,5 @@
 -- What a run of the tool prints, and its exit status (this profile).
-use Rattle.std.specs.Prelude.{◌≡◌, ◌≤◌, ◌⊎◌, ℕ, ◌-◌, ◌^◌, ◌==◌, ◌&&◌, nat_le, not, true, count_by, List, [], ◌∷◌, length, codes, bytes_eq, if◌then◌else◌, Option, Some, None}
-use Rattle.std.specs.List.{list_all}
+use Rattle.std.specs.Prelude.{◌≡◌, ◌≤◌, ◌⊎◌, ℕ, ◌-◌, ◌^◌, not, true, count_by, List, [], ◌∷◌, codes, bytes_eq, if◌then◌else◌, Option, Some, None}
 use Rattle.afp_outside.specs.ends.Dialer.{DialerState}
 use Rattle.afp_outside.specs.ends.Link.{LinkState}
 use Rattle.afp_outside.specs.ends.Sink.{SinkState}
@@ -9,7 +8,7 @@ use Rattle.capture_log.specs.Reading.{Replays}
 use Rattle.capture_log.specs.declared.replay_end.ReplayEnd.{ReplayEnd}
 use Rattle.afptool_lib.specs.tool.Checking.{RunsCheck}
 use Rattle.afpd_lib.specs.server.Reporting.{bad_words}
-use Rattle.capture_log_lines.specs.log.Fields.{is_digit, value_behind}
+use Rattle.line_words.specs.Numbers.{padded_number_in}
 use Rattle.capture_made.specs.made.Making.{MakesBy, Tallies}
 use Rattle.capture_made.specs.declared.made.making.MakeEnd.{MakeEnd}
 use Rattle.capture_made.specs.declared.made.making.MakeEnd.TheVariants as make_ends
@@ -25,10 +24,6 @@ use Rattle.afptool_lib.specs.tool.Lines.{drill_line, replay_text, replay_status,
 use Rattle.afptool_lib.specs.tool.Telling.{Tells}
 use Rattle.afptool_lib.specs.declared.tool.words.Command.{Command}
 use Rattle.afptool_lib.specs.declared.tool.words.Command.TheVariants.{Replay, Check, Parcel as ParcelWord, Make, Tally, Drill}
-
--- the number that a word spells in decimal, if it is one of at most so much; it may have leading zeros
-abbrev pub number_in : ℕ → List ℕ → Option ℕ
-number_in most word = if not (length word == 0) && list_all is_digit word && nat_le (value_behind 0 word) most then Some (value_behind 0 word) else None
 
 -- the largest number that a capture is made of
 abbrev pub last_number : ℕ
@@ -59,7 +54,7 @@ abbrev pub command_in : List (List ℕ) → Option Command
 command_in [] = None
 command_in (word ∷ []) = command_of word
 command_in (word ∷ other ∷ []) = None
-command_in (word ∷ number ∷ steps ∷ []) = made_in word (number_in last_number number) (number_in most_steps steps)
+command_in (word ∷ number ∷ steps ∷ []) = made_in word (padded_number_in last_number number) (padded_number_in most_steps steps)
 command_in (word ∷ number ∷ steps ∷ other ∷ words) = None
 
 -- a made capture has so many steps at most, and so has a drill

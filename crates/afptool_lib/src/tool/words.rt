@@ -1,11 +1,11 @@
 //! The words of the command line.
-ghost use Rattle.std.specs.Prelude.{◌≡◌, ◌≤◌, IfSome, nat_le, if◌then◌else◌, map, string_bytes};
-ghost use Rattle.std.specs.List.{list_all};
-ghost use Rattle.capture_log_lines.specs.log.Fields.{is_digit, value_behind};
+ghost use Rattle.std.specs.Prelude.{◌≡◌, ◌≤◌, IfSome, map, string_bytes};
 ghost use Rattle.capture_made.specs.requests.Requests.{most_steps};
-ghost use Rattle.afptool_lib.specs.tool.Tool.{FitsSteps, command_in, command_of, last_number, made_in, made_of, number_in};
+ghost use Rattle.afptool_lib.specs.tool.Tool.{FitsSteps, command_in, command_of, last_number, made_in, made_of};
+ghost use Rattle.line_words.specs.Numbers.{padded_number_in};
 
 use capture_made::MOST_STEPS;
+use line_words::padded_number;
 
 /// What the tool is asked to do that dials nothing.
 #[derive(Clone, Copy)]
@@ -41,55 +41,12 @@ fn command_of(word: &[u8]) -> Option<Command>
     None
 }
 
-fn is_digit(byte: u8) -> bool
-    ensures { result ≡ is_digit byte }
-{
-    b'0' <= byte && byte <= b'9'
-}
-
-fn are_digits(word: &[u8]) -> bool
-    ensures { result ≡ list_all is_digit word.now }
-{
-    word.iter().all(|byte| is_digit(*byte))
-}
-
-/// The number that digits spell, if it is at most `most`.
-fn value_of(digits: &[u8], most: u64) -> Option<u64>
-    ensures value { result ≡ (if nat_le (value_behind 0 digits.now) most then Some (value_behind 0 digits.now) else None) }
-    ensures most { IfSome result (λ value. value ≤ most) }
-{
-    let mut value: u64 = 0;
-    for digit in digits {
-        let last = u64::from(digit.saturating_sub(b'0'));
-        if value > most / 10 {
-            return None;
-        }
-        if last > most - value * 10 {
-            return None;
-        }
-        value = value * 10 + last;
-    }
-    Some(value)
-}
-
-/// The number that a word spells in decimal, if it is one of at most `most`.
-fn number(word: &[u8], most: u64) -> Option<u64>
-    ensures value { result ≡ number_in most word.now }
-    ensures most { IfSome result (λ value. value ≤ most) }
-{
-    if !word.is_empty() && are_digits(word) {
-        value_of(word, most)
-    } else {
-        None
-    }
-}
-
 /// The number of steps that a word spells.
 fn steps_in(word: &[u8]) -> Option<u32>
-    ensures value { result ≡ number_in most_steps word.now }
+    ensures value { result ≡ padded_number_in most_steps word.now }
     ensures most { IfSome result (λ steps. steps ≤ most_steps) }
 {
-    match number(word, u64::from(MOST_STEPS)) {
+    match padded_number(word, u64::from(MOST_STEPS)) {
         Some(steps) => Some(steps as u32),
         None => None,
     }
@@ -115,10 +72,10 @@ fn made_of(word: &[u8], number: u64, steps: u32) -> Option<Command>
 
 /// What three words ask.
 fn made_in(word: &[u8], first: &[u8], second: &[u8]) -> Option<Command>
-    ensures command { result ≡ made_in word.now (number_in last_number first.now) (number_in most_steps second.now) }
+    ensures command { result ≡ made_in word.now (padded_number_in last_number first.now) (padded_number_in most_steps second.now) }
     ensures fits { FitsSteps result }
 {
-    let Some(found) = number(first, u64::MAX) else {
+    let Some(found) = padded_number(first, u64::MAX) else {
         return None;
     };
     let Some(steps) = steps_in(second) else {

@@ -1,12 +1,12 @@
 -- The requests of a made capture (AFP Reference, "AFP Calls"; AFP over TCP; which requests are made is this profile's).
-use Rattle.std.specs.Prelude.{ℕ, ℤ, pos, zero, suc, ◌+◌, ◌*◌, ◌%◌, ◌^◌, ◌==◌, false, List, [], ◌∷◌, ◌++◌, length, slice_index, slice_set, Option, Some, None, codes, if◌then◌else◌}
+use Rattle.std.specs.Prelude.{ℕ, ℤ, pos, zero, suc, ◌+◌, ◌*◌, ◌%◌, ◌^◌, ◌==◌, false, List, [], ◌∷◌, ◌++◌, slice_index, slice_set, codes, if◌then◌else◌}
 use Rattle.afp_base.specs.declared.ids.ForkRef.{ForkRef}
 use Rattle.afp_base.specs.declared.ids.NodeId.{NodeId}
 use Rattle.afp_base.specs.declared.ids.VolumeId.{VolumeId}
 use Rattle.afp_names.specs.Path.{PathValue, utf8_names, path_steps}
-use Rattle.afp_calls_grammar.specs.grammar.Call.{canonical_call, canonical_data}
 use Rattle.afp_calls_grammar.specs.declared.grammar.call.Call.{Call}
 use Rattle.afp_calls_grammar.specs.declared.grammar.call.Call.TheVariants as calls
+use Rattle.afp_client.specs.session.State.{call_frame}
 use Rattle.dsi_frame.specs.Frame.{Frame, canonical_frame}
 use Rattle.dsi_frame.specs.declared.frame.DsiCommand.TheVariants as commands
 use Rattle.capture_made.specs.requests.Drawing.{Draws, drawn, state_after}
@@ -71,15 +71,6 @@ call_of o a b =
     else if o == 5 then lock a b
     else if o == 6 then write a b
     else enumerate
-
--- the frame of a call: one with data comes in a Write, and its word is the place of the data (AFP over TCP, "DSIWrite")
-abbrev pub framed_call : ℕ → Call → Option (List ℕ) → Frame
-framed_call id call None = record { reply = false; command = commands.Command; id = id; word = 0; payload = canonical_call call }
-framed_call id call (Some bytes) =
-    record { reply = false; command = commands.Write; id = id; word = length (canonical_call call); payload = canonical_call call ++ bytes }
-
-abbrev pub call_frame : ℕ → Call → Frame
-call_frame id call = framed_call id call (canonical_data call)
 
 -- DSIOpenSession, with an attention quantum of 1024
 abbrev pub open_session : Frame

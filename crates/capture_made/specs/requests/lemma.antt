@@ -1,3 +1,2 @@
 -- What the code goes by; no public contract cites it.
-pub mod Headers
 pub mod Letters

@@ -4,7 +4,8 @@ ghost use Rattle.capture_log.specs.Taking.{IsCapture, IsLink};
 ghost use Rattle.capture_log_server.specs.CaptureState.{CaptureState};
 ghost use Rattle.capture_log.specs.Standing.{uncompared};
 ghost use Rattle.capture_log_lines.specs.made.Lines.{house_lines, end_line, in_line, out_line};
-ghost use Rattle.capture_made.specs.requests.Requests.{after, call_frame, first_moment, login, most_steps, open_session, open_volume, opening, request, request_of};
+ghost use Rattle.afp_client.specs.session.State.{call_frame};
+ghost use Rattle.capture_made.specs.requests.Requests.{after, first_moment, login, most_steps, open_session, open_volume, opening, request, request_of};
 ghost use Rattle.capture_made.specs.made.lemma.Adding.{Adds, Exchanged, Takes};
 
 use crate::requests::{Request, Steps, login, open_session, open_volume};

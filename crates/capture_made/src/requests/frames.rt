@@ -1,87 +1,34 @@
 //! The frames of requests.
-ghost use Rattle.std.specs.Prelude.{◌≡◌, ◌≤◌, length, is_some, IfOk};
-ghost use Rattle.afp_base.specs.Limits.{payload_limit};
-ghost use Rattle.dsi_frame.specs.Frame.{WordFits, canonical_frame, frame_of};
-ghost use Rattle.afp_calls_grammar.specs.grammar.Call.{IsSpellable, canonical_data};
-ghost use Rattle.capture_made.specs.requests.Requests.{call_frame, call_of, login, open_session, open_volume};
-ghost use Rattle.capture_made.specs.requests.lemma.Headers.{call_header};
+ghost use Rattle.std.specs.Prelude.{◌≡◌, IfOk};
+ghost use Rattle.dsi_frame.specs.Frame.{canonical_frame};
+ghost use Rattle.afp_calls_grammar.specs.grammar.Call.{IsSpellable};
+ghost use Rattle.afp_client.specs.session.State.{call_frame};
+ghost use Rattle.capture_made.specs.requests.Requests.{call_of, login, open_session, open_volume};
 
 use crate::requests::calls;
-use afp_base::{Bytes, MAX_PAYLOAD, OutOfMemory};
-use afp_calls::{Call, write_call};
+use afp_base::{Bytes, OutOfMemory};
+use afp_calls::Call;
+use afp_client::{fits_frame, put_call};
 use dsi_frame::{DsiCommand, Header, write_frame};
 use std::alloc::Global;
-
-/// Whether a call has data, so that it comes in a Write frame.
-#[tactic(auto, unfolding(afp_calls_grammar::specs::grammar::Call::canonical_data))]
-fn has_data(call: &Call) -> bool
-    ensures { result ≡ is_some (canonical_data call.now) }
-{
-    match call {
-        Call::Write { .. } => true,
-        Call::WriteExt { .. } => true,
-        Call::AddIcon { .. } => true,
-        _ => false,
-    }
-}
-
-/// The header of a call with this id: its data, where it has some, begin at this place of its payload.
-fn header_of_call(has_data: bool, id: u16, place: u32, length: u32) -> Header
-    ensures header { result ≡ call_header has_data id place length }
-    ensures word { place ≤ length → WordFits result.reply result.command result.word length }
-{
-    Header {
-        reply: false,
-        command: if has_data {
-            DsiCommand::Write
-        } else {
-            DsiCommand::Command
-        },
-        id,
-        word: if has_data { place } else { 0 },
-        length,
-    }
-}
-
-/// The bytes of a frame, which has as many bytes of payload as its header says.
-fn frame_bytes(alloc: Global, header: &Header, payload: &[u8]) -> Result<Bytes, OutOfMemory>
-    requires length { header.now.length ≡ length payload.now }
-    requires limit { header.now.length ≤ payload_limit }
-    requires offset { WordFits header.now.reply header.now.command header.now.word header.now.length }
-    ensures { IfOk result (λ bytes. bytes ≡ canonical_frame (frame_of header.now payload.now)) }
-{
-    let mut bytes = Bytes::new(alloc);
-    write_frame(header, payload, &mut bytes)?;
-    Ok(bytes)
-}
 
 /// The bytes of a call's request, with this id. The one error is want of memory.
 pub(crate) fn call_bytes(alloc: Global, id: u16, call: &Call) -> Result<Bytes, OutOfMemory>
     requires { IsSpellable call.now }
     ensures { IfOk result (λ bytes. bytes ≡ canonical_frame (call_frame id call.now)) }
 {
-    let mut payload = Bytes::new(alloc);
-    let mut piece = Bytes::new(alloc);
-    write_call(alloc, call, &mut payload, &mut piece)?;
-    let place = payload.as_slice().len();
-    payload.extend(piece.as_slice())?;
-    if payload.as_slice().len() > MAX_PAYLOAD as usize {
+    if !fits_frame(alloc, call)? {
         return Err(OutOfMemory);
     }
-    let header = header_of_call(
-        has_data(call),
-        id,
-        place as u32,
-        payload.as_slice().len() as u32,
-    );
-    frame_bytes(alloc, &header, payload.as_slice())
+    let mut bytes = Bytes::new(alloc);
+    put_call(alloc, id, call, &mut bytes)?;
+    Ok(bytes)
 }
 
 /// The bytes of DSIOpenSession.
 pub(crate) fn open_session_bytes(alloc: Global) -> Result<Bytes, OutOfMemory>
     ensures { IfOk result (λ bytes. bytes ≡ canonical_frame open_session) }
 {
-    let options = [1, 4, 0, 0, 4, 0];
     let header = Header {
         reply: false,
         command: DsiCommand::OpenSession,
@@ -89,7 +36,9 @@ pub(crate) fn open_session_bytes(alloc: Global) -> Result<Bytes, OutOfMemory>
         word: 0,
         length: 6,
     };
-    frame_bytes(alloc, &header, &options)
+    let mut bytes = Bytes::new(alloc);
+    write_frame(&header, &[1, 4, 0, 0, 4, 0], &mut bytes)?;
+    Ok(bytes)
 }
 
 /// The bytes of FPLogin, the second request of a connection.

@@ -1,6 +1,7 @@
 //! The requests that open a connection.
 ghost use Rattle.std.specs.Prelude.{◌≡◌, ◌≤◌, IfOk};
-ghost use Rattle.capture_made.specs.requests.Requests.{call_frame, first_moment, login, open_session, open_volume, request};
+ghost use Rattle.afp_client.specs.session.State.{call_frame};
+ghost use Rattle.capture_made.specs.requests.Requests.{first_moment, login, open_session, open_volume, request};
 
 use crate::requests::frames::{login_bytes, open_session_bytes, open_volume_bytes};
 use crate::requests::request::Request;

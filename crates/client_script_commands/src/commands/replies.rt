@@ -38,8 +38,8 @@ pub(crate) fn ask_node<A: Asker>(asker: &mut A, call: Call) -> Result<u32, Stop<
     }
 }
 
-/// A volume that was opened.
-fn volume_of(reply: &Reply) -> Option<VolumeId>
+/// The volume that a reply opens.
+pub fn volume_of(reply: &Reply) -> Option<VolumeId>
     ensures { result ≡ volume_in reply.now }
 {
     match reply {

@@ -5,18 +5,11 @@ ghost use Rattle.client_script_lines.specs.declared.lines.line.ScriptLine.TheVar
 ghost use Rattle.client_script_lines.specs.lines.Lines.{path_in, target_in, bytes_in, hex_in, text_in, number_in, first, rest, moves_in, put_in, note_in, unpack_in, range_in, path_line, headed, line_in};
 
 use crate::lines::element::{is_bytes, is_deep_path, is_hex, is_path, is_text};
-use crate::lines::limits::LONGEST_LINE;
+use crate::lines::limits::{LAST_ID, LAST_PLACE, LAST_REFERENCE, LONGEST_LINE};
 use crate::lines::line::{LineFault, ScriptLine};
 use afp_base::{Bytes, OutOfMemory};
 use line_words::{first_word, padded_number};
 use std::alloc::Global;
-
-/// The last number of an open fork, the last node id, and the last place in a fork.
-const LAST_REFERENCE: u64 = (1 << 16) - 1;
-
-const LAST_ID: u64 = (1 << 32) - 1;
-
-const LAST_SIZE: u64 = (1 << 63) - 1;
 
 /// The word, where it has its form.
 fn word_if(alloc: Global, fits: bool, word: &[u8]) -> Result<Option<Bytes>, OutOfMemory>
@@ -147,10 +140,10 @@ fn reference_and_sizes(alloc: Global, text: &[u8]) -> Result<Option<Range>, OutO
         return Ok(None);
     };
     let (word, more) = first_word(more);
-    let Some(from) = number(alloc, word, LAST_SIZE)? else {
+    let Some(from) = number(alloc, word, LAST_PLACE)? else {
         return Ok(None);
     };
-    match number(alloc, more, LAST_SIZE)? {
+    match number(alloc, more, LAST_PLACE)? {
         Some(size) => Ok(Some(Range {
             reference,
             from,

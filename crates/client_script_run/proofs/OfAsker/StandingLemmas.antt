@@ -20,7 +20,7 @@ use Rattle.afp_client.specs.declared.links.talk.Told.{Told}
 use Rattle.client_script_lines.specs.calls.Asked.{IsCommand}
 use Rattle.client_script_commands.specs.declared.parts.asker.Answer.{Answer}
 use Rattle.client_script_commands.specs.parts.Parts.{Exchange}
-use Rattle.client_script_run.specs.asker.Kinds.{reply_kind}
+use Rattle.afp_serial.specs.ReplyKinds.{reply_kind}
 use Rattle.client_script_run.specs.asker.Read.{AreRead, IsRead}
 use Rattle.client_script_run.specs.asker.Standing.{AnswersBy, before_limits, HasClosed, HasEnded, HasLeft, OpensNone, IsOpen, Stands, TellsBad, TellsOn, ToldAt, first_of, spent_behind, spent_on}
 use Rattle.client_script_run.specs.declared.asker.asker.AskEnd.{AskEnd}

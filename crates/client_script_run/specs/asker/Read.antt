@@ -5,7 +5,7 @@ use Rattle.afp_client.specs.session.Run.{Result as CallResult}
 use Rattle.afp_replies.specs.Replies.{Shows}
 use Rattle.client_script_commands.specs.declared.parts.asker.Answer.{Answer}
 use Rattle.client_script_commands.specs.parts.Parts.{Exchange}
-use Rattle.client_script_run.specs.asker.Kinds.{reply_kind}
+use Rattle.afp_serial.specs.ReplyKinds.{reply_kind}
 
 -- calls, each with its answer
 abbrev pub zipped : List Call → List Answer → List Exchange

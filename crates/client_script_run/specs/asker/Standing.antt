@@ -16,7 +16,7 @@ use Rattle.afp_client.specs.declared.links.talk.Limit.{Limit}
 use Rattle.afp_client.specs.declared.links.talk.Told.{Told}
 use Rattle.client_script_commands.specs.declared.parts.asker.Answer.{Answer}
 use Rattle.client_script_commands.specs.parts.Parts.{Asked, Exchange}
-use Rattle.client_script_run.specs.asker.Kinds.{reply_kind}
+use Rattle.afp_serial.specs.ReplyKinds.{reply_kind}
 use Rattle.client_script_run.specs.asker.Read.{AreRead}
 use Rattle.client_script_run.specs.declared.asker.asker.AskEnd.{AskEnd}
 use Rattle.client_script_run.specs.declared.asker.asker.AskEnd.TheVariants as ends

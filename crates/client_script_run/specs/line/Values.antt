@@ -1,7 +1,9 @@
 -- What the words of a script's line stand for (this profile).
 use Rattle.std.specs.Prelude.{ℕ, List, [], ◌∷◌, ◌++◌, Option, Some, None, if◌then◌else◌}
 use Rattle.std.specs.List.{slice_split}
-use Rattle.client_script_lines.specs.lines.Words.{is_root, is_slash, plain, spelt, value_behind}
+use Rattle.client_script_lines.specs.lines.Words.{is_root, is_slash, plain}
+use Rattle.line_words.specs.Hexadecimal.{spelt}
+use Rattle.line_words.specs.Numbers.{value_behind}
 
 abbrev pub or_none : Option (List ℕ) → List ℕ
 or_none (Some bytes) = bytes

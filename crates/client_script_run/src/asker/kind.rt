@@ -1,6 +1,6 @@
 //! By what the reply to a call is read.
 ghost use Rattle.std.specs.Prelude.{◌≡◌};
-ghost use Rattle.client_script_run.specs.asker.Kinds.{bits_in_call, command_of, dir_bits_of, reply_kind};
+ghost use Rattle.afp_serial.specs.ReplyKinds.{bits_in_call, command_of, dir_bits_of, reply_kind};
 
 use afp_calls_grammar::Call;
 use afp_calls_grammar::grammar::commands::*;

@@ -8,14 +8,9 @@ ghost use Rattle.client_script_run.specs.line.Values.{number_of};
 
 use crate::line::values::number_of;
 use afp_base::{Bytes, ForkRef};
-use client_script_commands::{Asker, Stop, commands as commands, parts_end};
+use client_script_commands::{Asker, Stop, commands, parts_end};
+use client_script_lines::{LAST_PLACE, LAST_REFERENCE};
 use std::alloc::Global;
-
-/// The numbers of open forks lie below this.
-const REFERENCES: u64 = 1 << 16;
-
-/// Places in a fork lie below this.
-const SIZES: u64 = 1 << 63;
 
 /// `lock REFERENCE FROM LENGTH`.
 pub(crate) fn run_lock<A: Asker>(
@@ -28,9 +23,9 @@ pub(crate) fn run_lock<A: Asker>(
     ensures { Comes (A.exchanges asker.old) (lock (fork_of reference.now) (number_of from.now) (number_of size.now)) result (A.exchanges asker.new) }
 {
     parts_end::<A>();
-    let number = number_of(reference, REFERENCES)?;
-    let from = number_of(from, SIZES)?;
-    let size = number_of(size, SIZES)?;
+    let number = number_of(reference, LAST_REFERENCE)?;
+    let from = number_of(from, LAST_PLACE)?;
+    let size = number_of(size, LAST_PLACE)?;
     commands::lock::lock(alloc, asker, ForkRef(number as u16), from, size)
 }
 
@@ -45,9 +40,9 @@ pub(crate) fn run_unlock<A: Asker>(
     ensures { Comes (A.exchanges asker.old) (unlock (fork_of reference.now) (number_of from.now) (number_of size.now)) result (A.exchanges asker.new) }
 {
     parts_end::<A>();
-    let number = number_of(reference, REFERENCES)?;
-    let from = number_of(from, SIZES)?;
-    let size = number_of(size, SIZES)?;
+    let number = number_of(reference, LAST_REFERENCE)?;
+    let from = number_of(from, LAST_PLACE)?;
+    let size = number_of(size, LAST_PLACE)?;
     commands::unlock::unlock(alloc, asker, ForkRef(number as u16), from, size)
 }
 
@@ -60,6 +55,6 @@ pub(crate) fn run_drop<A: Asker>(
     ensures { Comes (A.exchanges asker.old) (drop (fork_of reference.now)) result (A.exchanges asker.new) }
 {
     parts_end::<A>();
-    let number = number_of(reference, REFERENCES)?;
+    let number = number_of(reference, LAST_REFERENCE)?;
     commands::drop::drop(alloc, asker, ForkRef(number as u16))
 }

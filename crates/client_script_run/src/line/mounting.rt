@@ -10,25 +10,11 @@ ghost use Rattle.client_script_run.specs.line.Values.{text_of};
 
 use crate::line::values::short_text;
 use afp_base::{Bytes, Code, VolumeId};
-use afp_bitmap::Values;
 use afp_calls_grammar::Call;
-use afp_replies::Reply;
+use client_script_commands::commands::replies::volume_of;
 use client_script_commands::{Answer, Asker, Stop};
 use client_script_lines::{calls, numbered};
 use std::alloc::Global;
-
-/// The volume that a reply opens.
-fn volume_of(reply: &Reply) -> Option<VolumeId>
-    ensures { result ≡ volume_in reply.now }
-{
-    match reply {
-        Reply::Params {
-            values: Values::Volume(volume),
-            ..
-        } => Some(VolumeId(volume.volume)),
-        _ => None,
-    }
-}
 
 /// Lets a call go.
 fn let_go(_call: Call) {}

@@ -22,7 +22,8 @@ use crate::line::values::{number_of, path_of, piece_of, short_text, target_of};
 use afp_base::{Bytes, NodeId, OutOfMemory, VolumeId};
 use client_script_commands::get::get::get;
 use client_script_commands::ls::ls::ls;
-use client_script_commands::{Asker, Stop, commands as commands, parts_end};
+use client_script_commands::{Asker, Stop, commands, parts_end};
+use client_script_lines::LAST_ID;
 use std::alloc::Global;
 
 /// What is printed where no volume is mounted.
@@ -31,9 +32,6 @@ pub(crate) fn no_volume(alloc: Global) -> Result<Bytes, OutOfMemory>
 {
     Bytes::of(alloc, b"no volume")
 }
-
-/// The ids of nodes lie below this.
-const IDS: u64 = 1 << 32;
 
 /// `mkdir PATH`, in a volume.
 pub(crate) fn run_mkdir<A: Asker>(
@@ -278,6 +276,6 @@ pub(crate) fn run_find<A: Asker>(
     let Some(volume) = mounted else {
         return Ok(no_volume(alloc)?);
     };
-    let number = number_of(node, IDS)?;
+    let number = number_of(node, LAST_ID)?;
     commands::find::find(alloc, asker, volume, NodeId(number as u32))
 }

@@ -1,12 +1,12 @@
 //! What words stand for.
-ghost use Rattle.std.specs.Prelude.{◌≡◌, ◌≤◌, ◌<◌, ◌^◌, ◌++◌, ◌∷◌, [], length, IfOk, IfSome, OnOk};
+ghost use Rattle.std.specs.Prelude.{◌≡◌, ◌≤◌, ◌<◌, ◌++◌, ◌∷◌, [], length, IfOk, IfSome, OnOk};
 ghost use Rattle.client_script_lines.specs.calls.Places.{IsPlace, longest_place};
-ghost use Rattle.client_script_lines.specs.lines.Words.{value_behind};
 ghost use Rattle.client_script_run.specs.line.Values.{directory_text, ended, but_last, last_of, name_text, names_in, number_of, path_text, spelt_text, text_of};
 
 use afp_base::{Bytes, OutOfMemory};
 use afp_names::{Path, UTF8_NAMES};
-use client_script_lines::{first_element, has_slash, plain, spelt};
+use client_script_lines::plain;
+use line_words::{has_byte, padded_number, parts_at, spelt};
 use std::alloc::Global;
 
 /// The most bytes of a line, and of what its words stand for.
@@ -68,21 +68,15 @@ pub(crate) fn spelt_of(alloc: Global, word: &[u8]) -> Result<Bytes, OutOfMemory>
     Ok(text)
 }
 
-/// The number that digits spell, where it is below a limit.
-pub(crate) fn number_of(word: &[u8], limit: u64) -> Result<u64, OutOfMemory>
-    requires least { 0 < limit }
-    requires most { limit ≤ 2 ^ 63 }
+/// The number that a word spells, where it is one of at most `most`.
+pub(crate) fn number_of(word: &[u8], most: u64) -> Result<u64, OutOfMemory>
     ensures number { IfOk result (λ number. number ≡ number_of word.now) }
-    ensures below { IfOk result (λ number. number < limit) }
+    ensures most { IfOk result (λ number. number ≤ most) }
 {
-    let mut value: u128 = 0;
-    for digit in word {
-        value = value * 10 + u128::from(digit.saturating_sub(b'0'));
-        if value >= u128::from(limit) {
-            return Err(OutOfMemory);
-        }
+    match padded_number(word, most) {
+        Some(number) => Ok(number),
+        None => Err(OutOfMemory),
     }
-    Ok(value as u64)
 }
 
 /// Appends a name, and a zero byte behind it.
@@ -105,10 +99,10 @@ fn put_directory<'a>(
 {
     let mut left = word;
     loop {
-        if !has_slash(left) {
+        if !has_byte(left, b'/') {
             return Ok(left);
         }
-        let (name, rest) = first_element(left);
+        let (name, rest) = parts_at(left, b'/');
         put_ended(alloc, out, name)?;
         left = rest;
     }

@@ -12,26 +12,18 @@ use crate::rounds::laws::requests_are_told_in_order;
 use crate::rounds::line::Line;
 use crate::rounds::opening::Linked;
 use crate::rounds::round::call_round;
-use afp_base::{Bytes, Code, MAX_PAYLOAD, Moment, OutOfMemory};
-use afp_calls::write_call;
+use afp_base::{Bytes, Code, Moment, OutOfMemory};
 use afp_calls_grammar::Call;
-use afp_client::Event;
+use afp_client::{Event, fits_frame};
 use capture_log_server::SoleTeller;
 use std::alloc::Global;
-
-/// The most bytes of a request's payload.
-const MOST_PAYLOAD: usize = MAX_PAYLOAD as usize;
 
 /// A call fits in a frame. One that does not is told as want of memory.
 fn fits(alloc: Global, call: &Call) -> Result<(), OutOfMemory>
     requires { IsSpellable call.now }
     ensures { OnOk result (length (canonical_call call.now) + length (canonical_piece call.now) ≤ payload_limit) }
 {
-    let mut block = Bytes::new(alloc);
-    let mut piece = Bytes::new(alloc);
-    write_call(alloc, call, &mut block, &mut piece)?;
-    let rest = MOST_PAYLOAD.saturating_sub(block.as_slice().len());
-    if block.as_slice().len() <= MOST_PAYLOAD && piece.as_slice().len() <= rest {
+    if fits_frame(alloc, call)? {
         Ok(())
     } else {
         Err(OutOfMemory)

@@ -1,5 +1,6 @@
 //! The words of a case: bytes, numbers and moments.
 use crate::cases::fault::CaseFault;
+use crate::lines::digits_of;
 use afp_base::{Bytes, Moment};
 use std::alloc::Global;
 
@@ -39,10 +40,7 @@ pub fn owned(alloc: Global, word: &str) -> Result<Bytes, CaseFault> {
 
 /// The word that spells bytes: their hexadecimal digits, or `-`.
 pub fn word_of(alloc: Global, bytes: &[u8]) -> Result<String, CaseFault> {
-    if bytes.is_empty() {
-        return text_of(alloc, "-");
-    }
-    Ok(hex::encode(alloc, bytes)?)
+    Ok(digits_of(alloc, bytes)?)
 }
 
 /// Appends that word.

@@ -1,9 +1,0 @@
-use Rattle.std.proofs.Common.{◌≡◌, ◌≤◌, drop}
-use Rattle.capture_log_lines.specs.log.Fields.{value_behind}
-use Rattle.afptool_lib.proofs.tool.words.value_of.Given as goal
-
-abbrev pub invariant-loop-digit : goal.invariant-loop-digit
-invariant-loop-digit l = record {
-  most : l.value ≤ l.most;
-  value : value_behind l.value (drop l.digit-index l.digits) ≡ value_behind 0 l.digits;
-}
