@@ -166,7 +166,7 @@ class Html:
         above, text = one.said
         if one.comment or not text:
             return f'<p class="comment">{self.plain(text)}</p>' if text else ""
-        return f'<p class="comment soft">{self.plain(f"As {above}: {text}" if above else text)}</p>'
+        return f'<p class="comment soft">{self.plain(f"With {above}: {text}" if above else text)}</p>'
 
     def lines(self, pieces):
         """The text in lines, each of which is broken with what follows indented."""

@@ -116,7 +116,7 @@ class Markdown:
 
     def comment(self, one):
         above, text = one.said
-        return self.plain(text) if one.comment else f"*{self.plain(f'As {above}: {text}' if above else text)}*"
+        return self.plain(text) if one.comment else f"*{self.plain(f'With {above}: {text}' if above else text)}*"
 
     def place(self, text, path, line, functions):
         shown = ", ".join(f"[{self.plain(one.name)}]({self.links.file(one.path, one.line)})" for one in functions[:MOST_FUNCTIONS])

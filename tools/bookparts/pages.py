@@ -61,8 +61,7 @@ def chapter_page(book, chapter):
     name, title, lead, files = chapter
     page = Page(name, title, lead=lead)
     for file in book.files(files):
-        page.add(Heading(2, [heading_of(file)], clean(f"{file.crate}.{file.module}")), Paragraph(file.comment) if file.comment else None,
-                 Paragraph(Soft([ToFile(file.path, file.path)])))
+        page.add(*file_head(file))
         for item in file.items:
             if isinstance(item, str):
                 page.add(Heading(3, item))
@@ -71,8 +70,10 @@ def chapter_page(book, chapter):
     return page
 
 
-def heading_of(file):
-    return f"{file.module.replace('.', ' ')} ({file.crate})"
+def file_head(file):
+    """The heading of a file's definitions, with its first comment."""
+    title = f"{file.module.replace('.', ' ')} ({file.crate})"
+    return Heading(2, [title], clean(f"{file.crate}.{file.module}")), Paragraph(f"{file.comment} ".lstrip(), Soft([ToFile(file.path, file.path)]))
 
 
 def words_page(book, crate):
@@ -82,7 +83,7 @@ def words_page(book, crate):
     for definition in definitions:
         if definition.file is not file:
             file = definition.file
-            page.add(Heading(2, [heading_of(file)], clean(f"{file.crate}.{file.module}")), Paragraph(file.comment) if file.comment else None)
+            page.add(*file_head(file))
         page.add(Definitions(definition, book.functions(definition)))
     return page
 
