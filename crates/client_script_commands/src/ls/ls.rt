@@ -34,7 +34,7 @@ fn let_go(_answer: Answer) {}
 fn let_call_go(_call: Call) {}
 
 /// Asks for a list.
-#[tactic(auto, using(client_script_commands::proofs::OfParts::PartLemmas::any_told, client_script_commands::proofs::OfParts::PartLemmas::any_waits))]
+#[tactic(auto, using(crate::proofs::OfParts::PartLemmas::any_told, crate::proofs::OfParts::PartLemmas::any_waits))]
 fn ask_list<A: Asker>(asker: &mut A, call: Call) -> Result<Answer, Stop<A::End>>
     requires { IsAskable call }
     ensures any { AnyTells call.entry (A.exchanges asker.old) result (A.exchanges asker.new) }
