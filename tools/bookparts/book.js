@@ -4,17 +4,18 @@ const found = document.getElementById("found");
 const MOST = 40;
 
 // How well a name fits: 0 is best, and nothing does not fit.
-function fit(name, wanted) {
+function fit([name], wanted) {
   const text = name.toLowerCase();
   const at = text.indexOf(wanted);
   if (at < 0) return undefined;
-  if (text === wanted || text === "fp" + wanted) return 0;
-  return at === 0 ? 1 : 2;
+  if (text === "fp" + wanted) return 0;
+  if (text === wanted) return 1;
+  return at === 0 ? 2 : 3;
 }
 
 function show() {
   const wanted = box.value.trim().toLowerCase().replace(/ /g, "_");
-  const hits = wanted ? NAMES.map((row) => [fit(row[0], wanted), row]).filter((hit) => hit[0] !== undefined) : [];
+  const hits = wanted ? NAMES.map((row) => [fit(row, wanted), row]).filter((hit) => hit[0] !== undefined) : [];
   hits.sort((a, b) => a[0] - b[0] || a[1][0].length - b[1][0].length || a[1][0].localeCompare(b[1][0]));
   found.replaceChildren(...hits.slice(0, MOST).map(([, row], place) => item(row, place)));
   found.hidden = !wanted;

@@ -5,13 +5,19 @@ from bookparts import plan
 from bookparts.calls import numbers_in
 from bookparts.evidence import CAPTURES, PROMISES, SCRIPTS
 from bookparts.gather import definition_of
-from bookparts.model import Bullets, Definitions, Folded, Heading, Indent, Page, Paragraph, Soft, Table, Term, ToFile, ToPage, ToWord
+from bookparts.model import Arms, Bullets, Definitions, Folded, Heading, Indent, Page, Paragraph, Soft, Table, Term, ToFile, ToPage, ToWord
 from bookparts.reduce import taken_apart
 from bookparts.specs import Definition
 from bookparts.terms import Name, shown, text_of
 
 MOST_SCRIPTS = 12
 MOST_WORDS = 120
+OF_ONE_SIZE = {
+    "Pad": ("1", "a pad of any value"), "LastPad": ("0 or 1", "a pad, which a block may end before"), "Even": ("0 or 1", "a pad where the place is odd"),
+    "Signed32": ("4", "a number with a sign"), "Signed64": ("8", "a number with a sign"), "Pathname": ("a path", "its type, hint, count and names"),
+    "Tail": ("all that remains", ""), "Flag": ("1", "whether it is a directory"), "Entry": ("an entry", "of the list"),
+}
+OF_ANY_SIZE = {"Number": "a number", "Count": "a count of what stands further on", "Plain": "bytes", "Raw": "bytes"}
 PARTS = {"Option Code", "List Refusal", "List Edit", "VolumeState", "Effect", "Reply", "CallRow"}
 
 
@@ -28,6 +34,7 @@ def call_page(book, call):
     page.add(Heading(2, "What it commits", "commits"), *commits(call))
     page.add(Heading(2, "Its definitions", "definitions"))
     page.add(*[Definitions(definition, book.functions(definition)) for definition in book.own[call.name]])
+    page.add(Heading(3, "Its lines in definitions over all calls", "lines"), Arms(arms(book, call)))
     page.add(*shared(book, call))
     page.add(Heading(2, "Captures", "captures"), *captures(book, call))
     return page
@@ -120,13 +127,9 @@ def field_words(word):
         return "2", ["the bits that were asked, ", terms[1], ", within ", terms[0]]
     if name == "Counted":
         return f"{texts[0]} and more", ["a count, and as many bytes"]
-    simple = {"Pad": ("1", "a pad of any value"), "LastPad": ("0 or 1", "a pad, which a block may end before"), "Even": ("0 or 1", "a pad where the place is odd"),
-              "Signed32": ("4", "a number with a sign"), "Signed64": ("8", "a number with a sign"), "Pathname": ("a path", "its type, hint, count and names"),
-              "Tail": ("all that remains", ""), "Flag": ("1", "whether it is a directory"), "Entry": ("an entry", "of the list")}
-    sized = {"Number": "a number", "Count": "a count of what stands further on", "Plain": "bytes", "Raw": "bytes"}
-    if name in simple:
-        return simple[name][0], [simple[name][1]]
-    return (texts[0] if texts else ""), [sized.get(name, Term(shown(word)))]
+    if name in OF_ONE_SIZE:
+        return OF_ONE_SIZE[name][0], [OF_ONE_SIZE[name][1]]
+    return (texts[0] if texts else ""), [OF_ANY_SIZE.get(name, Term(shown(word)))]
 
 
 # -- steps, refusals, effect
@@ -135,14 +138,16 @@ def steps(book, call):
     kept = call.number not in numbers_in(book.specs.not_kept)
     return [Paragraph("Of these steps the first that applies decides (", ToWord(book.specs.verdict), "). Here the block begins with the command."),
             lines_table(call.steps),
-            Paragraph("Its answers are kept for a repeat of the request." if kept else "None of its answers is kept for a repeat (", *([] if kept else [ToWord(book.specs.not_kept), ")."]))]
+            Paragraph("Its answers are kept for a repeat of the request.") if kept
+            else Paragraph("None of its answers is kept for a repeat (", ToWord(book.specs.not_kept), ").")]
 
 
 def refusals(call):
     if not call.refusals:
         reason = plan.EXCEPTIONS.get((call.title, "refusals"))
         return [Paragraph("It is never refused", f": {reason}." if reason else ".")]
-    return [Paragraph("The first that holds decides. ", Soft(["In these, ", Term("w"), " is the world, and ", Term("s"), " the session that calls."])), lines_table(call.refusals)]
+    names = Soft(["In these, ", Term("w"), " is the world, and ", Term("s"), " the session that calls."])
+    return [Paragraph("The first that holds decides. ", names), lines_table(call.refusals)]
 
 
 def lines_table(lines):
@@ -241,6 +246,17 @@ def reply_words(word, rest):
 
 # -- words and captures
 
+def arms(book, call):
+    """The lines of definitions over all calls that are about this one."""
+    found = []
+    for definition in [book.specs.layouts, book.specs.rows, *book.arms[call.name]]:
+        for pieces in definition.lines:
+            text = "".join(piece for piece, _ in pieces)
+            if text.startswith(f"{definition.name} ") and re.search(rf"\b{call.name}\b", text.split(" = ")[0]):
+                found.append((definition, pieces))
+    return found
+
+
 def shared(book, call):
     own = {definition.key for definition in book.own[call.name]}
     found = {}
@@ -261,6 +277,9 @@ def first_sentence(comment):
 def words_of_page(book, call):
     for definition in book.own[call.name]:
         yield from definition.cited
+    for definition, pieces in arms(book, call):
+        yield definition
+        yield from (word for _, word in pieces if word is not None)
     for line in call.steps + call.refusals:
         for item in [*line.condition, *(line.told or []), *([line.reply] if line.reply else [])]:
             yield from (word for _, word in ([] if isinstance(item, str) else shown(item)))
@@ -271,7 +290,8 @@ def words_of_page(book, call):
 
 def captures(book, call):
     told, scripts = book.captures.told.get(call.title, {}), book.captures.naming(call.title)
-    rows = [[[code], [ToFile(f"{name}:{line}", f"{CAPTURES}/{name}", line)], [ToFile("its script", f"{SCRIPTS}/{name}")]] for code, (name, line) in sorted(told.items())]
+    rows = [[[code], [ToFile(f"{name}:{line}", f"{CAPTURES}/{name}", line)], [ToFile("its script", f"{SCRIPTS}/{name}")]]
+            for code, (name, line) in sorted(told.items())]
     blocks = [Table(["code", "first told in", ""], rows, "codes")] if rows else []
     links = [ToFile(name, f"{SCRIPTS}/{name}") for name in scripts]
     blocks.append(Paragraph("Scripts that name it: ", *between(links[:MOST_SCRIPTS]), "." if len(links) <= MOST_SCRIPTS else " and others."))

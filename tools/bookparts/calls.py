@@ -1,7 +1,8 @@
 """The 57 calls, each taken apart into its layout, its refusals, its effect, its reply and what it commits, out of the definitions alone."""
 from bookparts.reduce import Reducer, aliases, apply, taken_apart
-from bookparts.specs import Constructor, Declared, Definition
-from bookparts.terms import App, Bin, Case, If, Lam, Lit, Name, Proj, Rec, Tup, Var, shown, text_of
+from bookparts.specs import Declared, Definition
+from bookparts.tables import Lines, Refuse, Ways, choice
+from bookparts.terms import App, Bin, Case, If, Lam, Lit, Name, Rec, Tup, Var, text_of
 
 REFUSALS = {"CallRow", "Refusal", "List Refusal", "Option Code", "Refused"}
 EFFECTS = {"CallRow", "Effect"}
@@ -18,47 +19,12 @@ class Faulty(Exception):
     """A part of a call that is missing, or cannot be read."""
 
 
-class Line:
-    """A line of a table of conditions: how far it stands in, its condition and what is told, as terms and plain texts, and the comments of its words."""
-
-    def __init__(self, level, condition, told=None, codes=(), reply=None, words=()):
-        self.level, self.condition, self.told, self.codes, self.reply, self.words = level, condition, told, list(codes), reply, list(words)
-
-
-class Refuse:
-    """The end of a list of refusals: what is told. `from_` is the term whose code it is."""
-
-    def __init__(self, code, reply):
-        self.code, self.reply = code, reply
-
-    def __eq__(self, other):
-        return isinstance(other, Refuse) and self.code == other.code and self.reply == other.reply
-
-
-class Choice:
-    """A choice in a list of refusals: by a condition that has a comment of its own, or none."""
-
-    def __init__(self, condition, yes, no, comment=""):
-        self.condition, self.yes, self.no, self.comment = condition, yes, no, comment
-
-    def __eq__(self, other):
-        return isinstance(other, Choice) and (self.condition, self.yes, self.no) == (other.condition, other.yes, other.no)
-
-
-class Ways:
-    def __init__(self, of, ways):
-        self.of, self.ways = of, ways
-
-    def __eq__(self, other):
-        return isinstance(other, Ways) and (self.of, self.ways) == (other.of, other.ways)
-
-
 class Call:
     """One call: `name` without FP, its parts, and what was wrong with them."""
 
     def __init__(self, name, number, group, row, layout, reader):
         self.name, self.number, self.group, self.row, self.layout, self.reader = name, number, group, row, layout, reader
-        self.faults, self.opened = [], []
+        self.faults = []
         self.fields, self.enclosed, self.refusals, self.effects, self.commits, self.steps = [], None, [], [], [], []
         self.shape, self.reply, self.reply_layout = "", [], None
         self.named = {}
@@ -99,13 +65,13 @@ class Specs:
         if self._steps is None:
             clause = Reducer.clauses(self.verdict)[0]
             reducer = Reducer(STEPS, used=names_in(clause.patterns))
-            self._steps = Lines(self, set()).of(self.verdict_tree(reducer, clause.body))
+            self._steps = Lines().of(self.verdict_tree(reducer, clause.body))
         return self._steps
 
     def verdict_tree(self, reducer, term):
         term = reducer.head(term)
         if isinstance(term, If):
-            return Choice(term.condition, self.verdict_tree(reducer, term.yes), self.verdict_tree(reducer, term.no))
+            return choice(term.condition, self.verdict_tree(reducer, term.yes), self.verdict_tree(reducer, term.no))
         if isinstance(term, Case):
             ways = []
             for pattern, way in term.ways:
@@ -240,7 +206,7 @@ class CallReader:
             raise Faulty("its row is no definition that row names")
         clause = self.clause(row)
         self.term, self.used = apply(Name(row.name, row), clause.patterns), names_in(clause.patterns) | {"w", "s"}
-        lines = Lines(self.specs, self.used)
+        lines = Lines()
         self.call.refusals = lines.of(self.refusal_tree())
         for line in self.call.refusals:
             self.name(*(item for item in [*line.condition, *(line.told or []), line.reply] if item and not isinstance(item, str)))
@@ -264,9 +230,7 @@ class CallReader:
 
     def refusal_tree(self):
         reducer, term = self.part("refusals", REFUSALS)
-        tree = self.tree(reducer, term)
-        self.call.opened += reducer.opened
-        return tree
+        return self.tree(reducer, term)
 
     def tree(self, reducer, term):
         term = reducer.head(term)
@@ -306,13 +270,11 @@ class CallReader:
             self.name(world, reply, *(of for of, _ in where))
         if not self.call.effects:
             raise Faulty("it has no effect")
-        self.call.opened += reducer.opened
 
     def read_commits(self, found, refused):
         reducer, term = found
         for where, leaf in leaves(reducer, term, refused):
             self.call.commits.append((where, None if text_of(leaf) == "None" else plain(reducer, leaf, self.specs.sums)))
-        self.call.opened += reducer.opened
 
     # -- the reply
 
@@ -396,10 +358,6 @@ def refuse(reducer, term):
     return Refuse(code, None if text_of(reply).split(".")[-1] == "Empty" else reply)
 
 
-def choice(condition, yes, no, comment=""):
-    return yes if yes == no else Choice(condition, yes, no, comment)
-
-
 def listed(reducer, term):
     """The items of a list that is written out."""
     term = reducer.head(term)
@@ -435,103 +393,3 @@ def leaves(reducer, term, refused, where=()):
                     yield from leaves(reducer, way, refused, (*where, (of, pattern)))
     else:
         yield where, term
-
-
-class Lines:
-    """Writes a tree of refusals as the lines of a table."""
-
-    def __init__(self, specs, used):
-        self.specs, self.used, self.lines, self.refused = specs, used, [], set()
-
-    def of(self, tree):
-        self.write(tree, 0)
-        return self.lines
-
-    def write(self, tree, level):
-        if isinstance(tree, Choice):
-            self.write_choice(tree, level)
-        elif isinstance(tree, Ways):
-            self.write_ways(tree, level)
-        elif isinstance(tree, Refuse):
-            self.add(level, ["always"], tree, [])
-
-    def write_choice(self, tree, level):
-        comments = comments_of(tree.condition, tree.comment)
-        if isinstance(tree.yes, Refuse):
-            self.add(level, [tree.condition], tree.yes, comments)
-            self.write(tree.no, level)
-        elif isinstance(tree.no, Refuse):
-            self.add(level, [apply(Name("not", None), [tree.condition])], tree.no, comments)
-            self.write(tree.yes, level)
-        else:
-            self.lines.append(Line(level, ["Where ", tree.condition, ":"], words=comments))
-            self.write(tree.yes, level + 1)
-            self.lines.append(Line(level, ["Else:"]))
-            self.write(tree.no, level + 1)
-
-    def write_ways(self, tree, level):
-        comments = comments_of(tree.of)
-        going = [(pattern, way) for pattern, way in tree.ways if not isinstance(way, Refuse)]
-        for pattern, way in tree.ways:
-            if isinstance(way, Refuse):
-                self.refused.add((text_of(tree.of), taken_apart(pattern)[0]))
-                rest = ["; else it is ", going[0][0]] if len(going) == 1 and has_names(going[0][0]) else []
-                self.add(level, [tree.of, " is ", pattern, *rest], way, comments, tree.of)
-        further = [(pattern, way) for pattern, way in going if way is not None]
-        if len(going) == 1:
-            self.write(going[0][1], level)
-            return
-        for pattern, way in further:
-            self.lines.append(Line(level, ["Where ", tree.of, " is ", pattern, ":"], words=comments))
-            self.write(way, level + 1)
-
-    def add(self, level, condition, told, comments, of=None):
-        code = told.code
-        if isinstance(code, Var):
-            words = codes_under(of)
-            codes = sorted(words)
-            named = [": ", *joined([Name(name, words[name]) for name in codes])] if codes else []
-            self.lines.append(Line(level, condition, ["that ", code, *named], codes, None, comments))
-        else:
-            self.lines.append(Line(level, condition, [code], [text_of(code).split(".")[-1]], told.reply, comments))
-
-
-def joined(terms):
-    """Terms with commas between them, and an `or` before the last."""
-    parts = []
-    for at, term in enumerate(terms):
-        parts += [" or " if at == len(terms) - 1 else ", "] if at else []
-        parts.append(term)
-    return parts
-
-
-def has_names(pattern):
-    apart = taken_apart(pattern)
-    return bool(apart and apart[1])
-
-
-def comments_of(term, own=""):
-    """What the comments say of a condition: its own, or those of the definitions that it is put together of."""
-    if own:
-        return [own]
-    if isinstance(term, Bin) and term.mark in ("&&", "||"):
-        return comments_of(term.left) + [text for text in comments_of(term.right) if text not in comments_of(term.left)]
-    head, args = (term.head, term.args) if isinstance(term, App) else (term, [])
-    if isinstance(head, Name) and head.text in ("not", "is_none", "is_some") and len(args) == 1:
-        return comments_of(args[0])
-    word = head.word if isinstance(head, Name) else None
-    return [word.comment] if isinstance(word, Definition) and word.comment else []
-
-
-def codes_under(term):
-    """The codes that the definitions of a term name, all that they are made of included: each with its word."""
-    found, seen, open_ = {}, set(), [word for _, word in shown(term)]
-    while open_:
-        word = open_.pop()
-        word = word.of if isinstance(word, Constructor) else word
-        if isinstance(word, Declared) and word.name == "Code" and word.variant:
-            found[word.variant] = word
-        elif isinstance(word, Definition) and word.key not in seen:
-            seen.add(word.key)
-            open_ += word.cited
-    return found

@@ -63,12 +63,11 @@ class Gathered:
         self.top, self.library = top, Library(top)
         self.calls, self.without_group, self.specs = read_calls(self.library)
         self.code = Code(self.library)
-        running = self.library.word(f"Rattle.{plan.RUNS_ROW[0]}.specs.{plan.RUNS_ROW[1]}", plan.RUNS_ROW[2])
-        self.paths = Paths(self.code, self.calls, running, plan.GIVES, plan.PUTS)
+        self.paths = Paths(self.code, self.calls, self.specs.definition(*plan.RUNS_ROW), plan.GIVES, plan.PUTS)
         self.captures, self.promises, self.summaries = Captures(top), Promises(top), summaries(top)
         self.closure = Closure(self.specs.sums)
         self.home, self.printed, self.missing_files = {}, {}, []
-        self.own, self.declared = {}, {}
+        self.own, self.arms, self.declared = {}, {}, {}
         self.settle()
 
     @property
@@ -116,7 +115,7 @@ class Gathered:
         chapters = set(self.home)
         for call in self.calls:
             own = [one for one in used[call.name] if one.key not in chapters and is_own(users[one.key])]
-            self.own[call.name] = own
+            self.own[call.name], self.arms[call.name] = own, [one for one in used[call.name] if one.key in self.specs.sums]
             for definition in own:
                 self.home.setdefault(definition.key, call.title)
                 self.printed.setdefault(call.title, {})[definition.key] = definition

@@ -22,10 +22,13 @@ PAGE = """<!DOCTYPE html>
 <body class="{kind}">
 <header>
 <nav>{crumbs}</nav>
-<form role="search"><input id="search" type="search" placeholder="Search a name" aria-label="Search a name" autocomplete="off"><ol id="found" hidden></ol></form>
+<form role="search">
+<input id="search" type="search" placeholder="Search a name" aria-label="Search a name" autocomplete="off">
+<ol id="found" hidden></ol>
+</form>
 </header>
 <main>
-<h1>{heading}</h1>
+<h1>{title}</h1>
 {lead}
 {toc}
 {body}
@@ -45,9 +48,9 @@ class Html:
 
     def text(self):
         page = self.page
-        lead = f'<p class="lead">{self.plain(page.lead)}</p>' if page.lead else ""
-        return PAGE.format(title=escape(page.title), kind="call" if page.group else page.name.partition("-")[0], crumbs=self.crumbs(), heading=escape(page.title),
-                           lead=lead, toc=self.toc(), body="\n".join(self.block(block) for block in page.blocks), around=self.around())
+        return PAGE.format(title=escape(page.title), kind="call" if page.group else page.name.partition("-")[0], crumbs=self.crumbs(),
+                           lead=f'<p class="lead">{self.plain(page.lead)}</p>' if page.lead else "", toc=self.toc(),
+                           body="\n".join(self.block(block) for block in page.blocks), around=self.around())
 
     def crumbs(self):
         links = ['<a href="index.html">Contents</a>']
@@ -156,11 +159,13 @@ class Html:
 
     def write_definitions(self, block):
         one = block.definition
-        comment = self.comment(one)
         place = self.place(one.place, one.path, one.line, block.functions)
-        anchor = self.links.book.anchor(one)
-        return (f'<section class="definition" id="{anchor}"><h4><a href="#{anchor}">{escape(one.name)}</a></h4>{comment}'
-                f"<pre>{self.lines(one.pieces)}</pre>{place}</section>")
+        return self.section(self.links.book.anchor(one), one.name, self.comment(one), self.lines(one.lines), place)
+
+    @staticmethod
+    def section(anchor, name, comment, lines, place):
+        return (f'<section class="definition" id="{anchor}"><h4><a href="#{anchor}">{escape(name)}</a></h4>{comment}'
+                f"<pre>{lines}</pre>{place}</section>")
 
     def comment(self, one):
         above, text = one.said
@@ -168,15 +173,9 @@ class Html:
             return f'<p class="comment">{self.plain(text)}</p>' if text else ""
         return f'<p class="comment soft">{self.plain(f"With {above}: {text}" if above else text)}</p>'
 
-    def lines(self, pieces):
-        """The text in lines, each of which is broken with what follows indented."""
-        text = "".join(self.piece_lines(piece, word) for piece, word in pieces)
-        return "".join(f'<span class="line">{line}</span>\n' for line in text.split("\n"))
-
-    def piece_lines(self, piece, word):
-        if word is not None or "\n" not in piece:
-            return self.piece(piece, word)
-        return "\n".join(self.piece(part, word) for part in piece.split("\n"))
+    def lines(self, lines):
+        """Lines of pieces, each of which is broken with what follows indented."""
+        return "".join(f'<span class="line">{self.pieces(line)}</span>\n' for line in lines)
 
     def place(self, text, path, line, functions):
         links = ", ".join(f'<a class="file" href="{escape(self.links.file(one.path, one.line))}">{escape(one.name)}</a>' for one in functions[:MOST_FUNCTIONS])
@@ -184,12 +183,18 @@ class Html:
         promised = f" · in the contract of {links}{more}" if links else ""
         return f'<p class="place"><a class="file" href="{escape(self.links.file(path, line))}">{escape(text)}</a>{promised}</p>'
 
+    def write_arms(self, block):
+        lines = []
+        for one, pieces in block.lines:
+            first, word = pieces[0]
+            lines.append([(first[:len(one.name)], one), (first[len(one.name):], word), *pieces[1:]])
+        return f"<pre>{self.lines(lines)}</pre>"
+
     def write_declarations(self, block):
-        anchor = declared_anchor(block.declared)
         comment = f'<p class="comment">{self.plain(block.comment)}</p>' if block.comment else ""
-        lines = "".join(f'<span class="line">{escape(line, quote=False)}</span>\n' for line in block.text.split("\n"))
+        lines = self.lines([[(line, None)] for line in block.text.split("\n")])
         place = self.place(f"{block.path}:{block.line}", block.path, block.line, [])
-        return f'<section class="definition" id="{anchor}"><h4><a href="#{anchor}">{escape(block.declared[2])}</a></h4>{comment}<pre>{lines}</pre>{place}</section>'
+        return self.section(declared_anchor(block.declared), block.declared[2], comment, lines, place)
 
 
 def names_script(book, pages):

@@ -123,6 +123,11 @@ class Markdown:
         more = f" and {len(functions) - MOST_FUNCTIONS} more" if len(functions) > MOST_FUNCTIONS else ""
         return f"[{self.plain(text)}]({self.links.file(path, line)})" + (f"; in the contract of {shown}{more}" if shown else "")
 
+    def write_arms(self, block):
+        texts = ["".join(piece for piece, _ in pieces) for _, pieces in block.lines]
+        places = {one.key: f"[{self.plain(one.name)}]({self.links.word(one) or self.links.file(one.path, one.line)})" for one, _ in block.lines}
+        return ["```", *texts, "```", "", ", ".join(places.values())]
+
     def write_declarations(self, block):
         anchor = declared_anchor(block.declared)
         comment = [self.plain(block.comment), ""] if block.comment else []

@@ -88,8 +88,15 @@ class Folded:
 class Definitions:
     """A definition in full: name, comment, text and place, and the functions that promise something by it."""
 
-    def __init__(self, definition, functions=(), only=None):
-        self.definition, self.functions, self.only = definition, list(functions), only
+    def __init__(self, definition, functions=()):
+        self.definition, self.functions = definition, list(functions)
+
+
+class Arms:
+    """Lines of definitions over all calls, of the one call: each with its definition, in pieces."""
+
+    def __init__(self, lines):
+        self.lines = lines
 
 
 class Declarations:

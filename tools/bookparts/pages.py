@@ -1,8 +1,10 @@
 """The pages of the book: contents, chapters, shared words, types of the code, words of the kit and the list of names."""
+import os
+
 from bookparts import plan
 from bookparts.callpages import call_page, summary
 from bookparts.gather import clean
-from bookparts.model import Anchor, Bullets, Declarations, Definitions, Heading, Page, Paragraph, Soft, Table, Term, ToFile, ToPage, ToWord
+from bookparts.model import Anchor, Bullets, Declarations, Definitions, Folded, Heading, Page, Paragraph, Soft, Table, Term, ToFile, ToPage, ToWord
 
 TITLE = "The profile"
 
@@ -19,14 +21,16 @@ def all_pages(book):
 
 
 def in_order(calls):
-    """The calls in the groups of the AFP Reference, by number in each."""
-    return [call for group, _ in plan.GROUPS for call in sorted((call for call in calls if call.group == group), key=lambda call: call.number or 0)]
+    """The calls in the groups of the AFP Reference."""
+    return [call for group, _ in plan.GROUPS for call in calls if call.group == group]
 
 
 def index_page(book, words, last):
     page = Page("index", TITLE, lead="What the file server does, as its definitions say it. Printed out of `crates/*/specs` by `tools/book`.")
-    page.add(Paragraph("Each definition stands under its comment, with its place; each word in it is a link to its own definition. A call is refused with the "
-                       "first of its refusals that holds, and else it has its effect. Words that ", str(plan.SHARED_FROM), " calls or more share stand in the appendix."))
+    page.add(Paragraph(plan.INTRODUCTION))
+    page.add(Folded("How definitions are written", [Table(["form", "what it is"], [[[Term(form)], [text]] for form, text in plan.FORMS], "forms")]))
+    beside = [ToFile(path, path) for path in plan.BESIDE if os.path.exists(os.path.join(book.top, path))]
+    page.add(Paragraph("Beside it: ", *[part for at, link in enumerate(beside) for part in ([", "] if at else []) + [link]], "."))
     page.add(Heading(2, "In front"), contents(plan.FRONT))
     page.add(Heading(2, "The calls"))
     for group, title in plan.GROUPS:
@@ -104,7 +108,8 @@ def types_page(book):
 
 def kit_page(book):
     page = Page("kit", "Words of the kit", lead="Words of the kit's libraries, which have their definitions there.")
-    page.add(Table(["word", "library"], [[[Anchor(clean(word.name)), Term(word.name)], [word.module.replace("Rattle.", "").replace(".specs.", ": ")]] for word in book.kit_words()], "kit"))
+    rows = [[[Anchor(clean(word.name)), Term(word.name)], [word.module.replace("Rattle.", "").replace(".specs.", ": ")]] for word in book.kit_words()]
+    page.add(Table(["word", "library"], rows, "kit"))
     return page
 
 

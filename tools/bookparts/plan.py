@@ -5,12 +5,12 @@ FRONT = [
     ("world", "The world", "One record of lists: what the server is set up with, its sessions, open forks, locks and volumes. And what a volume is.",
      [("afp_serial", "Household"), ("afp_serial", "Limits"), ("afp_serial", "World"), ("afp_serial", "Users"),
       ("volume_spec", "VolumeState"), ("volume_spec", "Order"), ("volume_spec", "Rights")]),
-    ("house", "The house and the status block", "What a server is set up with, for which faults that is refused, and the block that tells of it before a login.",
+    ("house", "The house and the status block", "For which faults what a server is set up with is refused, and the block that tells of it before a login.",
      [("afp_serial", "HouseFault"), ("afp_serial", "Faultless"), ("afp_serial", "StatusWords"), ("afp_serial", "StatusBlock")]),
     ("soundness", "Soundness", "What holds of the world, and of each volume in it, at each place of a history.",
      [("afp_serial", "Sound"), ("afp_serial", "Ranges"), ("afp_serial", "LawfulCall"), ("volume_spec", "SoundVolume"), ("volume_spec", "TypedVolume")]),
     ("frames", "Frames", "Frames of the Data Stream Interface, their bytes, and streams of them, however they are cut.",
-     [("dsi_frame", "Frame"), ("dsi_frame", "Stream"), ("dsi_frame", "Replies"), ("dsi_frame", "Buffered"), ("dsi_frame", "Deframe"), ("dsi_frame", "Filling")]),
+     [("dsi_frame", name) for name in ("Frame", "Stream", "Replies", "Buffered", "Deframe", "Filling")]),
     ("sessions", "Sessions", "How a session is opened, when its link is silent, the token by which a client comes back to it, and the answers that it keeps.",
      [("dsi_session", "Options"), ("dsi_session", "Pulse"), ("dsi_session", "RequestIds"), ("afp_serial", "Token"), ("afp_base", "Cached"),
       ("afp_serial", "KeptAnswers")]),
@@ -30,7 +30,8 @@ LAWS = [
      [("afp_serial", name) for name in ("Laws", "SessionLaws", "SessionViews", "SweepLaws", "KeptLaws", "LoginLaws", "CommitLaws", "IdLaws", "ForkLaws",
                                         "ForkHistory", "WriteLaws", "HistoryLaws", "ListReply", "ParmsReplies")]),
     ("laws-volumes", "Laws of a volume", "What each call keeps of a volume, its lists, its values, its forks and its desktop database.",
-     [("volume_spec", name) for name in ("Laws", "TreeSteps", "VolumeCalls", "Edit", "EditLaws", "EditRanges", "ListLaws", "ValueLaws", "ForkLaws", "DesktopLaws")]),
+     [("volume_spec", name) for name in ("Laws", "TreeSteps", "VolumeCalls", "Edit", "EditLaws", "EditRanges", "ListLaws", "ValueLaws", "ForkLaws",
+                                         "DesktopLaws")]),
     ("laws-bytes", "Laws of requests and replies", "One request and one reply for given bytes, and what is written is read again.",
      [("afp_calls_grammar", "grammar.Call"), ("afp_calls_grammar", "grammar.Spelt"), ("afp_calls_grammar", "grammar.Laws"), ("afp_replies", "Replies"),
       ("afp_replies", "Fitting"), ("afp_replies", "Requested"), ("dsi_session", "OptionLaws")]),
@@ -54,6 +55,23 @@ LAWS = [
 ]
 GROUPS = [("Session", "Session calls"), ("Volume", "Volume calls"), ("Directory", "Directory calls"), ("File", "File calls"), ("Fork", "Fork calls"),
           ("Desktop", "Desktop calls")]
+
+INTRODUCTION = ("Each definition stands under its comment, with its place; each word in it is a link to its own definition. A call is refused with the "
+                "first of its refusals that holds, and else it has its effect. Words that three calls or more share stand in the appendix, unless these are "
+                "of one family.")
+# How definitions are written, for a reader who has not met their language.
+FORMS = [
+    ("f : A → B → C", "f takes an A and a B, and gives a C"), ("f x y", "f of x and y"), ("λ x y. e", "the function that gives e for x and y"),
+    ("f (Some x) = ..", "what f is of a value of this form; the first line that fits decides"),
+    ("x.name", "the field of a record"), ("record { a = 1; b = 2 }", "a record of these fields"), ("record w { a = 1 }", "w with another a"),
+    ("[]", "the empty list"), ("x ∷ xs", "a list that begins with x; so a ∷ b ∷ [] has two elements"), ("xs ++ ys", "one list behind the other"),
+    ("(a, b)", "a pair; p.0 and p.1 are its parts"), ("None, Some x", "nothing, or x"), ("Ok x, Err c", "a value, or why there is none"),
+    ("suc n", "the number behind n; zero is 0"), ("pos n, negsuc n", "the whole numbers n and -n - 1"), ("a == b", "whether they are equal, as true or false"),
+    ("a ≡ b", "the statement that they are equal"), ("A × B, A ⊎ B", "both statements, one of them"),
+    ("(x : A) → B", "B holds of each x; (x : A) × B: of some x"),
+    ("⊥", "what never holds"), ("Type 0", "what a statement or a type is"), ("abbrev, unfoldable", "how proofs see a definition; readers can pass over them"),
+]
+BESIDE = ["docs/PROTOCOL.md", "docs/PROMISES.md", "docs/GLOSSARY.md", "docs/CAPTURES.md", "docs/ARCHITECTURE.md"]
 
 # What a call does without, and why. A part that is missing and does not stand here is a fault.
 EXCEPTIONS = {

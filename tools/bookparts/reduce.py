@@ -7,8 +7,7 @@ from bookparts.terms import Alias, App, Bin, Case, If, Lam, Let, Lit, Name, Proj
 
 ALWAYS = {"Option A", "List A", "A", "B"}
 SECOND_FIRST = {"refused_else"}
-KNOWN_WAYS = {"Some": ("None", "Some"), "None": ("None", "Some"), "Ok": ("Ok", "Err"), "Err": ("Ok", "Err"), "true": ("true", "false"), "false": ("true", "false"),
-              "zero": ("zero", "suc"), "suc": ("zero", "suc"), "[]": ("[]", "∷"), "∷": ("[]", "∷")}
+ALL_WAYS = ({"None", "Some"}, {"Ok", "Err"}, {"true", "false"}, {"zero", "suc"}, {"[]", "∷"})
 MOST_STEPS = 20000
 
 
@@ -121,7 +120,7 @@ class Reducer:
 
     def __init__(self, types, closed=(), used=(), sums=()):
         self.types, self.closed, self.used, self.sums = set(types) | (ALWAYS if types else set()), set(closed), set(used), set(sums)
-        self.steps, self.opened, self.known = 0, [], {}
+        self.steps, self.known = 0, {}
 
     def head(self, term):
         """The term, reduced up to what it begins with: a constructor, a record, a list, a choice or a case, or what cannot be opened."""
@@ -223,8 +222,6 @@ class Reducer:
             for clause in self.clauses(word):
                 values = {}
                 if all(self.matches(pattern, args, place, values) for place, pattern in enumerate(clause.patterns)):
-                    if word not in self.opened:
-                        self.opened.append(word)
                     return replaced(clause.body, values)
         except Stuck as stuck:
             return self.cases(word, args, stuck.place) if word.result in self.types else None
@@ -327,7 +324,7 @@ class Reducer:
 
     @staticmethod
     def are_all(seen):
-        return any(set(KNOWN_WAYS.get(name, (name, ""))) <= seen for name in seen)
+        return any(ways <= seen for ways in ALL_WAYS)
 
     def made(self, pattern, inner):
         """A constructor over new variables, named as in a pattern."""

@@ -111,6 +111,18 @@ class Definition:
         self.unbound = list(dict.fromkeys(reading.unbound))
         return pieces
 
+    @property
+    def lines(self):
+        """Its lines, each in pieces."""
+        lines = [[]]
+        for piece, word in self.pieces:
+            for at, part in enumerate(piece.split("\n")):
+                if at:
+                    lines.append([])
+                if part:
+                    lines[-1].append((part, word))
+        return lines
+
     @functools.cached_property
     def cited(self):
         """The words that it cites, in order, each once."""

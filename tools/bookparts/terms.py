@@ -1,7 +1,10 @@
 """The terms that definitions are made of: clauses are parsed, and terms shown again."""
 from bookparts.specs import KIT_CONSTRUCTORS, LANGUAGE, TOKEN, WORD, Constructor, Declared, Kit
 
-LEVELS = {"→": 1, "↔": 2, "⊎": 3, "×": 4, "≡": 5, "≢": 5, "≤": 5, "<": 5, "||": 6, "&&": 7, "==": 8, "∷": 9, "++": 9, "+": 10, "-": 10, "+ℤ": 10, "*": 11, "%": 11, "/": 11, "^": 12}
+LEVELS = {
+    "→": 1, "↔": 2, "⊎": 3, "×": 4, "≡": 5, "≢": 5, "≤": 5, "<": 5, "||": 6, "&&": 7, "==": 8, "∷": 9, "++": 9,
+    "+": 10, "-": 10, "+ℤ": 10, "*": 11, "%": 11, "/": 11, "^": 12,
+}
 TO_THE_RIGHT = {"→", "↔", "⊎", "×", "||", "&&", "∷", "++", "^"}
 APPLIED = 13
 STOPS = {")", "}", "]", ",", ";", "then", "else", "in", "="}
