@@ -2,13 +2,13 @@
 import re
 
 from bookparts import plan
-from bookparts.calls import numbers_in
+from bookparts.calls import ASKED, numbers_in
 from bookparts.evidence import CAPTURES, PROMISES, SCRIPTS
 from bookparts.gather import definition_of
 from bookparts.model import Arms, Bullets, Definitions, Folded, Heading, Indent, Page, Paragraph, Soft, Table, Term, ToFile, ToPage, ToWord
 from bookparts.reduce import taken_apart
 from bookparts.specs import Definition
-from bookparts.terms import Name, shown, text_of
+from bookparts.terms import Lit, Name, shown, text_of
 
 MOST_SCRIPTS = 12
 MOST_WORDS = 120
@@ -101,8 +101,8 @@ def request(call):
     for field, word in call.fields:
         size, what = field_words(word)
         at = str(place) if place is not None else ""
-        rows.append([[at], [size], [Term(shown(field))], what])
-        place = place + int(size) if place is not None and size.isdigit() else None
+        rows.append([[at], size, [Term(shown(field))], what])
+        place = place + int(size[0]) if place is not None and size in (["1"], ["2"], ["4"], ["8"]) else None
     blocks = [Table(["place", "bytes", "field", "what it is"], rows, "layout")]
     apart = taken_apart(call.enclosed) if call.enclosed is not None else None
     if apart and apart[0] == "Piece":
@@ -113,23 +113,24 @@ def request(call):
 
 
 def field_words(word):
-    """The size of a field in bytes, and what it is."""
+    """The size of a field in bytes, and what it is, as parts."""
     name, args = taken_apart(word) or (text_of(word), [])
-    terms = [Term(shown(arg)) for arg in args]
-    texts = [text_of(arg) for arg in args]
-    if name in ("Literal", "Exactly"):
-        return ("1", ["this value: ", terms[0]]) if name == "Literal" else (texts[0], ["this number: ", terms[1]])
+    terms = [arg.text if isinstance(arg, Lit) else Term(shown(arg)) for arg in args]
+    if name == "Literal":
+        return ["1"], ["this value: ", terms[0]]
+    if name == "Exactly":
+        return [terms[0]], ["this number: ", terms[1]]
     if name == "Within":
-        return texts[0], ["a number from ", terms[1], " to ", terms[2]]
+        return [terms[0]], ["a number from ", terms[1], " to ", terms[2]]
     if name == "Optional":
-        return texts[1], ["a number, there where ", terms[0]]
+        return [terms[1]], ["a number, there where ", terms[0]]
     if name == "Asked":
-        return "2", ["the bits that were asked, ", terms[1], ", within ", terms[0]]
+        return ["2"], ["the bits that were asked, ", terms[1], ", within ", terms[0]]
     if name == "Counted":
-        return f"{texts[0]} and more", ["a count, and as many bytes"]
+        return [terms[0], " and more"], ["a count, and as many bytes"]
     if name in OF_ONE_SIZE:
-        return OF_ONE_SIZE[name][0], [OF_ONE_SIZE[name][1]]
-    return (texts[0] if texts else ""), [OF_ANY_SIZE.get(name, Term(shown(word)))]
+        return [OF_ONE_SIZE[name][0]], [OF_ONE_SIZE[name][1]]
+    return terms[:1], [OF_ANY_SIZE.get(name, Term(shown(word)))]
 
 
 # -- steps, refusals, effect
@@ -216,12 +217,12 @@ def reply(book, call):
     rows = []
     for where, word, value, rest in call.reply:
         size, what = reply_words(word, rest)
-        rows.append([[size], [Term(value)] if value else [""], what] + ([where_parts(where)] if with_where else []))
+        rows.append([size, [Term(value)] if value else [""], what] + ([where_parts(where)] if with_where else []))
     if not rows:
         return [Paragraph("Its shape is ", Term(call.shape), ": it has no bytes.")]
     columns = ["bytes", "value", "what"] + (["where"] if with_where else [])
     kind = book.library.word("Rattle.afp_serial.specs.ReplyKinds", "reply_kind")
-    note = [Paragraph(Soft([Term("kind"), " is what the call asks for: ", ToWord(kind), "."]))] if any("kind." in cell_text(row) for row in rows) else []
+    note = [Paragraph(Soft([Term(ASKED), " is what the call asks for: ", ToWord(kind), "."]))] if any(f"{ASKED}." in cell_text(row) for row in rows) else []
     return shape + [Table(columns, rows, "layout")] + note
 
 
@@ -233,14 +234,14 @@ def reply_words(word, rest):
     if word is None:
         head = rest.head if hasattr(rest, "head") else rest
         comment = head.word.comment if isinstance(head, Name) and isinstance(head.word, Definition) else ""
-        return "", [Term(shown(rest)), Soft(f" {comment}")]
+        return [""], [Term(shown(rest)), Soft(comment)]
     name, args = taken_apart(word) or ("", [])
     if name == "Params":
-        return "parameters", ["of kind ", Term(shown(args[0])), ", by the bits ", Term(shown(args[1]))]
+        return ["parameters"], ["of kind ", Term(shown(args[0])), ", by the bits ", Term(shown(args[1]))]
     if name == "Never":
-        return "", ["no bytes are a reply"]
+        return [""], ["no bytes are a reply"]
     if name == "Remaining":
-        return "all that remains", [""]
+        return ["all that remains"], [""]
     return field_words(word)
 
 

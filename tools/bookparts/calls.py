@@ -11,6 +11,7 @@ KEEPERS = {"keeper_of", "keeper_of_edits"}
 LAYOUTS = {"Layout", "List RequestField", "RequestField"}
 REPLIES = {"ReplyLayout"}
 STEPS = {"Verdict", "Refused"}
+ASKED = "asked"
 SUM_TYPES = {"TreeCall", "VolumeCall"}
 MANY = 5
 
@@ -284,13 +285,12 @@ class CallReader:
         if row is None:
             raise Faulty(f"{self.specs.shapes.place}: no row of {self.specs.shapes.name} has its number {number}")
         self.call.shape = text_of(row.items[1])
-        reducer = Reducer(REPLIES, used={"kind"})
-        kind = Var("kind")
+        reducer = Reducer(REPLIES, used={ASKED})
         layouts = self.specs.by_call(self.specs.reply_layouts)
         if self.call.shape not in layouts:
             raise Faulty(f"{self.specs.reply_layouts.place}: {self.specs.reply_layouts.name} has no layout of {self.call.shape}")
         self.call.reply_layout = head_word(layouts[self.call.shape])
-        self.reply_fields(reducer, apply(Name(self.specs.reply_layouts.name, self.specs.reply_layouts), [row.items[1], kind]), [])
+        self.reply_fields(reducer, apply(Name(self.specs.reply_layouts.name, self.specs.reply_layouts), [row.items[1], Var(ASKED)]), [])
 
     def reply_fields(self, reducer, term, where):
         term = reducer.head(term)

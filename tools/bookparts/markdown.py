@@ -55,7 +55,8 @@ class Markdown:
         """A term, as a link where it is one word."""
         if not term.text:
             return ""
-        href = self.links.word(term.pieces[0][1]) if len(term.pieces) == 1 and term.pieces[0][1] is not None else None
+        word = term.pieces[0][1] if len(term.pieces) == 1 else None
+        href = None if word is None or isinstance(word, Kit) else self.links.word(word)
         return f"[`{term.text}`]({href})" if href else f"`{term.text}`"
 
     def behind(self, parts):
@@ -70,7 +71,7 @@ class Markdown:
             if isinstance(part, Indent):
                 text += "&emsp;" * part.level
             elif isinstance(part, Soft) and text:
-                text += ("<br>" if text.endswith("`") else "") + self.part(part)
+                text += ("<br>" if text.endswith(("`", ")")) else " ") + self.part(part).strip()
             else:
                 text += self.part(part)
         return (text + self.behind(parts)).replace("|", "\\|")
