@@ -46,7 +46,7 @@ pub use crate::ends::tape_link::TapeLink;
 pub use crate::ends::tape_listener::TapeListener;
 pub use crate::ends::tape_sink::TapeSink;
 pub use crate::ends::tape_source::TapeSource;
-pub use crate::ends::tcp_dialer::TcpDialer;
+pub use crate::ends::tcp_dialer::{DialReason, TcpDialer};
 pub use crate::ends::tcp_door::TcpDoor;
 pub use crate::ends::tcp_wire::TcpWire;
 pub use crate::ends::whole::{print_all, send_all};

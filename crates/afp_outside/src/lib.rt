@@ -7,8 +7,9 @@ mod ends;
 mod lines;
 
 pub use ends::{
-    Accepted, Clock, DialFault, Dialer, Gate, GateLog, Link, Listener, OpenGate, ReadResult, Sink,
-    Source, StdSink, StdSource, SteadyClock, SystemClock, TapeClock, TapeDialer, TapeLink,
-    TapeListener, TapeSink, TapeSource, TcpDialer, TcpDoor, TcpWire, Wrote, print_all, send_all,
+    Accepted, Clock, DialFault, DialReason, Dialer, Gate, GateLog, Link, Listener, OpenGate,
+    ReadResult, Sink, Source, StdSink, StdSource, SteadyClock, SystemClock, TapeClock, TapeDialer,
+    TapeLink, TapeListener, TapeSink, TapeSource, TcpDialer, TcpDoor, TcpWire, Wrote, print_all,
+    send_all,
 };
 pub use lines::{Lines, NextLine};

@@ -12,11 +12,23 @@ use std::marker::Model;
 use std::net::{Net, TcpStream};
 use std::string::String;
 use std::time::Clock;
+use thiserror::Error;
 
 /// The port of an address that names none (AFP over TCP, "afpovertcp").
 const AFP_PORT: u16 = 548;
 
-/// A dialer for links over TCP to one peer. It counts its errors.
+/// Why a link was not dialled.
+#[derive(Clone, Copy, Debug, Error)]
+pub enum DialReason {
+    /// The address can't be read.
+    #[error("the address is none of HOST and HOST:PORT")]
+    Address,
+    /// The system's error, that of the last address that was tried.
+    #[error("{0}")]
+    System(io::Error),
+}
+
+/// A dialer for links over TCP to one peer. It counts its errors, and keeps the reason of the last one.
 ///
 /// The peer's address is `HOST` or `HOST:PORT`, parted at the last `:`, where HOST is a host's name, an IPv4
 /// address, or an IPv6 address, which may stand in brackets; without a port it is 548. A dial tries the
@@ -30,6 +42,7 @@ pub struct TcpDialer<R> {
     handed: Log<()>,
     back: Log<TcpWire<R>>,
     faults: u64,
+    reason: Option<DialReason>,
 }
 
 impl<R> Model for TcpDialer<R> {
@@ -53,7 +66,13 @@ impl<R> TcpDialer<R> {
             handed: Log::new(),
             back: Log::new(),
             faults: 0,
+            reason: None,
         }
+    }
+
+    /// Why the last dial that failed did, for a person to read; `None` where none failed.
+    pub fn reason(&self) -> Option<DialReason> {
+        self.reason
     }
 }
 
@@ -85,30 +104,29 @@ fn host_and_port(address: &str) -> Option<(&str, u16)> {
 }
 
 /// Whether no link was dialled for want of memory, or the dial failed.
-fn fault_of(error: &io::Error) -> DialFault {
-    if error.kind() == ErrorKind::OutOfMemory {
-        DialFault::Memory
-    } else {
-        DialFault::Failed
+fn fault_of(reason: &DialReason) -> DialFault {
+    match reason {
+        DialReason::System(error) if error.kind() == ErrorKind::OutOfMemory => DialFault::Memory,
+        _ => DialFault::Failed,
     }
 }
 
 impl<R: Net<Stream = TcpStream> + Clock + Clone + Drop> TcpDialer<R> {
     /// A link to the peer.
-    fn next_wire(&self) -> Result<TcpWire<R>, DialFault>
+    fn next_wire(&self) -> Result<TcpWire<R>, DialReason>
         ensures { IfOk result IsFresh }
     {
         let Some((host, port)) = host_and_port(self.address.as_str()) else {
-            return Err(DialFault::Failed);
+            return Err(DialReason::Address);
         };
         let Ok(rt) = self.rt.clone() else {
-            return Err(DialFault::Memory);
+            return Err(DialReason::System(io::Error::from(ErrorKind::OutOfMemory)));
         };
         let stream = match TcpStream::connect(&self.rt, (host, port)) {
             Ok(stream) => stream,
-            Err(error) => return Err(fault_of(&error)),
+            Err(error) => return Err(DialReason::System(error)),
         };
-        TcpWire::new(stream, rt).map_err(|error| fault_of(&error))
+        TcpWire::new(stream, rt).map_err(DialReason::System)
     }
 }
 
@@ -125,10 +143,15 @@ impl<R: Net<Stream = TcpStream> + Clock + Clone + Drop> Dialer for TcpDialer<R> 
                 self.handed = self.handed.and(&());
                 Ok(wire)
             }
-            Err(DialFault::Memory) => Err(DialFault::Memory),
-            Err(DialFault::Failed) => {
-                self.faults = self.faults.saturating_add(1);
-                Err(DialFault::Failed)
+            Err(reason) => {
+                self.reason = Some(reason);
+                match fault_of(&reason) {
+                    DialFault::Memory => Err(DialFault::Memory),
+                    DialFault::Failed => {
+                        self.faults = self.faults.saturating_add(1);
+                        Err(DialFault::Failed)
+                    }
+                }
             }
         }
     }
