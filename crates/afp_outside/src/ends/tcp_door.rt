@@ -77,6 +77,14 @@ impl<R: Net<Listener = TcpListener, Stream = TcpStream>> TcpDoor<R> {
         ensures { result ≡ record { door = record { handed = 0; back = []; closed = false; faults = 0 }; left = limit_of limit } }
     {
         let listener = TcpListener::bind(&rt, (Ipv4Addr::UNSPECIFIED, port)).ok();
+        TcpDoor::over(rt, listener, limit)
+    }
+
+    /// A door at a port that is open, which is closed once it has handed out `limit` links, and never where that is 0. Where
+    /// there is none, each accept fails.
+    pub fn over(rt: R, listener: Option<TcpListener>, limit: u64) -> TcpDoor<R>
+        ensures { result ≡ record { door = record { handed = 0; back = []; closed = false; faults = 0 }; left = limit_of limit } }
+    {
         let left = if limit == 0 { None } else { Some(limit) };
         TcpDoor::with(rt, listener, left)
     }
@@ -90,8 +98,7 @@ impl<R: Net<Listener = TcpListener, Stream = TcpStream>> TcpDoor<R> {
             Some(listener) => listener.try_clone().ok(),
             None => None,
         };
-        let left = if limit == 0 { None } else { Some(limit) };
-        TcpDoor::with(rt, listener, left)
+        TcpDoor::over(rt, listener, limit)
     }
 }
 
