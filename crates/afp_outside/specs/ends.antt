@@ -2,6 +2,7 @@ pub mod Dialer
 pub mod Gate
 pub mod Link
 pub mod Listener
+pub mod Ready
 pub mod Sink
 pub mod Source
 pub mod Tape

@@ -7,9 +7,9 @@ mod ends;
 mod lines;
 
 pub use ends::{
-    Accepted, Clock, DialFault, DialReason, Dialer, Gate, GateLog, Link, Listener, OpenGate,
-    ReadResult, Sink, Source, StdSink, StdSource, SteadyClock, SystemClock, TapeClock, TapeDialer,
-    TapeLink, TapeListener, TapeSink, TapeSource, TcpDialer, TcpDoor, TcpWire, Wrote, print_all,
-    send_all,
+    Accepted, Came, Clock, DialFault, DialReason, Dialer, Gate, GateLog, Link, Listener, OpenGate,
+    ReadResult, Readiness, ReadyLink, ReadyRead, ReadyWrote, Sink, Source, StdSink, StdSource,
+    SteadyClock, SystemClock, TapeClock, TapeDialer, TapeLink, TapeListener, TapeSink, TapeSource,
+    TcpDialer, TcpDoor, TcpWire, Wrote, print_all, send_all,
 };
 pub use lines::{Lines, NextLine};
