@@ -3,6 +3,8 @@ use Rattle.std.specs.Prelude.{◌≡◌, ℕ, ◌+◌, ◌≤◌, List, ◌++◌
 use Rattle.afp_outside.specs.ends.Link.{LinkState, ReadsPiece, ReadsQuiet, ReadsEnd, FailsToRead}
 use Rattle.afp_outside.specs.declared.ends.link.ReadResult.{ReadResult}
 use Rattle.afp_outside.specs.declared.ends.link.ReadResult.TheVariants as results
+use Rattle.afp_outside.specs.declared.ends.ready_link.ReadyRead.{ReadyRead}
+use Rattle.afp_outside.specs.declared.ends.ready_link.ReadyRead.TheVariants as readies
 use Rattle.dsi_frame.specs.Buffered.{Buffered, buffer_length}
 
 -- The n bytes that came stand behind the rest.
@@ -26,3 +28,16 @@ TakesAtMost (results.Got n) most = n ≤ most
 TakesAtMost results.Quiet most = Unit {0}
 TakesAtMost results.End most = Unit {0}
 TakesAtMost results.Failed most = Unit {0}
+
+-- by what a read gave that does not wait
+abbrev pub ReadsMoreReady : Buffered → LinkState → ReadyRead → Buffered → LinkState → Type 0
+ReadsMoreReady old before (readies.Got n) new after = Buffers old before n new after
+ReadsMoreReady old before readies.NotYet new after = (after ≡ before) × (new ≡ old)
+ReadsMoreReady old before readies.End new after = ReadsEnd before after × (new ≡ old)
+ReadsMoreReady old before readies.Failed new after = FailsToRead before after × (new ≡ old)
+
+abbrev pub TakesAtMostReady : ReadyRead → ℕ → Type 0
+TakesAtMostReady (readies.Got n) most = n ≤ most
+TakesAtMostReady readies.NotYet most = Unit {0}
+TakesAtMostReady readies.End most = Unit {0}
+TakesAtMostReady readies.Failed most = Unit {0}

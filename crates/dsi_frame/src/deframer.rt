@@ -1,16 +1,17 @@
 //! A deframer: the frames of a stream that comes in pieces.
 ghost use Rattle.std.specs.Prelude.{◌≡◌, ◌+◌, ◌-◌, ◌<◌, ◌≤◌, ◌^◌, ◌++◌, [], List, ℕ, length, take, drop, min, IfOk};
 ghost use Rattle.afp_outside.specs.ends.Link.{Reads};
+ghost use Rattle.afp_outside.specs.ends.Ready.{ReadsReady};
 ghost use Rattle.dsi_frame.specs.Buffered.{Buffered, buffer_length};
 ghost use Rattle.dsi_frame.specs.Deframe.{IsHead};
-ghost use Rattle.dsi_frame.specs.Filling.{ReadsMore, TakesAtMost};
+ghost use Rattle.dsi_frame.specs.Filling.{ReadsMore, ReadsMoreReady, TakesAtMost, TakesAtMostReady};
 ghost use Rattle.dsi_frame.specs.Frame.{Frame, IsSpelling, payload_length_in};
 ghost use Rattle.dsi_frame.specs.Stream.{Begins, HasFrame};
-ghost use Rattle.dsi_frame.specs.lemma.BufferFilling.{Fills};
+ghost use Rattle.dsi_frame.specs.lemma.BufferFilling.{Fills, FillsReady};
 
 use crate::frame::{BadFrame, Head, numbers_in, read_header};
-use afp_base::{MAX_PAYLOAD, OutOfMemory};
-use afp_outside::{Link, ReadResult};
+use afp_base::{MAX_PAYLOAD, Moment, OutOfMemory};
+use afp_outside::{Link, ReadResult, ReadyLink, ReadyRead};
 use std::alloc::Global;
 use std::marker::Model;
 
@@ -122,6 +123,44 @@ fn read_behind<L: Link>(
     (start, gave)
 }
 
+// The same from a link that never waits.
+fn read_ready_into<L: ReadyLink>(
+    link: &mut L,
+    buffer: &mut [u8],
+    end: usize,
+    stop: usize,
+    now: Moment,
+) -> ReadyRead
+    requires some { end < stop }
+    requires within { stop ≤ length buffer.old }
+    ensures same { take end buffer.new ≡ take end buffer.old }
+    ensures size { length buffer.new ≡ length buffer.old }
+    ensures reads { ReadsReady (L.link_state link.old) (take (stop - end) (drop end buffer.new)) result (L.link_state link.new) }
+{
+    link.read_ready(&mut buffer[end..stop], now)
+}
+
+// The same, behind the bytes `held` from `start`.
+fn read_ready_behind<L: ReadyLink>(
+    link: &mut L,
+    buffer: &mut [u8],
+    start: usize,
+    held: usize,
+    most: usize,
+    now: Moment,
+) -> (usize, ReadyRead)
+    requires held { start + held ≤ length buffer.old }
+    requires room { held < length buffer.old }
+    requires most { 0 < most }
+    ensures reads { FillsReady (take held (drop start buffer.old)) most (L.link_state link.old) result.1 result.0 held buffer.new (L.link_state link.new) }
+{
+    let size = (buffer.len() - held).min(most);
+    let start = make_room(buffer, start, held, size);
+    let behind = start + held;
+    let gave = read_ready_into(link, buffer, behind, behind + size, now);
+    (start, gave)
+}
+
 /// The frames of a stream that comes in pieces. Its buffer holds the longest frame, 131,088 bytes.
 ///
 /// Contracts see the place in the stream and the rest: the bytes fed that no frame given out has taken.
@@ -200,6 +239,30 @@ impl Deframer {
         gave
     }
 
+    /// Reads once without waiting, at most so many bytes, and no more than there is room for, straight into its buffer. Fewer
+    /// than 2^64 bytes are fed in all.
+    pub fn read_ready<L: ReadyLink>(&mut self, link: &mut L, most: usize, now: Moment) -> ReadyRead
+        requires some { 0 < most }
+        requires free { length self.old.rest < buffer_length }
+        requires fits { self.old.place + length self.old.rest + most < 2 ^ 64 }
+        ensures reads { ReadsMoreReady self.old (L.link_state link.old) result self.new (L.link_state link.new) }
+        ensures most { TakesAtMostReady result most }
+    {
+        let (start, gave) = read_ready_behind(
+            link,
+            self.buffer.as_mut_slice(),
+            self.start,
+            self.held,
+            most,
+            now,
+        );
+        self.start = start;
+        if let ReadyRead::Got(n) = gave {
+            self.held += n;
+        }
+        gave
+    }
+
     /// What stands at the front of the rest. Where that is less than a frame, there is room for more.
     pub fn head(&self) -> Head
         ensures head { IsHead self.now result }
@@ -236,6 +299,26 @@ impl Deframer {
         self.start = 0;
         self.held = 0;
         self.place = 0;
+    }
+
+    /// Goes on with another stream, of which this rest stood at this place, in the same buffer: what was held is dropped.
+    pub fn resume(&mut self, place: u64, rest: &[u8])
+        requires room { length rest.now ≤ buffer_length }
+        requires total { place + length rest.now < 2 ^ 64 }
+        ensures { self.new ≡ record { place = place; rest = rest.now } }
+    {
+        self.restart();
+        self.start = put_behind(self.buffer.as_mut_slice(), 0, 0, rest);
+        self.held = rest.len();
+        self.place = place;
+    }
+
+    /// The bytes behind the frames given out.
+    pub fn held_bytes(&self) -> &[u8]
+        ensures bytes { result.now ≡ self.now.rest }
+        ensures fits { length self.now.rest ≤ buffer_length }
+    {
+        self.bytes()
     }
 
     /// How many bytes stand behind the frames given out.

@@ -3,6 +3,8 @@ use Rattle.std.specs.Prelude.{◌≡◌, ℕ, ◌+◌, ◌≤◌, List, ◌++◌
 use Rattle.afp_outside.specs.ends.Link.{LinkState, ReadsPiece, ReadsQuiet, ReadsEnd, FailsToRead}
 use Rattle.afp_outside.specs.declared.ends.link.ReadResult.{ReadResult}
 use Rattle.afp_outside.specs.declared.ends.link.ReadResult.TheVariants as results
+use Rattle.afp_outside.specs.declared.ends.ready_link.ReadyRead.{ReadyRead}
+use Rattle.afp_outside.specs.declared.ends.ready_link.ReadyRead.TheVariants as readies
 
 -- The n bytes that came stand in the buffer behind those that were held.
 pub record Filled (rest : List ℕ) (most : ℕ) (before : LinkState) (n start held : ℕ) (buffer : List ℕ) (after : LinkState) : Type 0 where
@@ -23,3 +25,10 @@ Fills rest most before (results.Got n) start held buffer after = Filled rest mos
 Fills rest most before results.Quiet start held buffer after = ReadsQuiet before after × Holds rest start held buffer
 Fills rest most before results.End start held buffer after = ReadsEnd before after × Holds rest start held buffer
 Fills rest most before results.Failed start held buffer after = FailsToRead before after × Holds rest start held buffer
+
+-- by what a read gave that does not wait
+abbrev pub FillsReady : List ℕ → ℕ → LinkState → ReadyRead → ℕ → ℕ → List ℕ → LinkState → Type 0
+FillsReady rest most before (readies.Got n) start held buffer after = Filled rest most before n start held buffer after
+FillsReady rest most before readies.NotYet start held buffer after = (after ≡ before) × Holds rest start held buffer
+FillsReady rest most before readies.End start held buffer after = ReadsEnd before after × Holds rest start held buffer
+FillsReady rest most before readies.Failed start held buffer after = FailsToRead before after × Holds rest start held buffer
