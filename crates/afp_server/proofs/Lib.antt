@@ -1,2 +1,3 @@
-pub mod OfLink
+pub mod OfConnection
 pub mod OfDoors
+pub mod OfLink

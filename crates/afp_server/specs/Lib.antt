@@ -1,2 +1,3 @@
-pub mod link
+pub mod connection
 pub mod doors
+pub mod link

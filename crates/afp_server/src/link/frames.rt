@@ -89,7 +89,7 @@ fn serve_frame<L: Link, T: Teller, G: Gate>(
 }
 
 /// The call of a link leaves the gate, where one entered.
-fn exit_gate<G: Gate>(gate: &G, called: Option<LinkNumber>, log: &mut G::Log)
+pub fn exit_gate<G: Gate>(gate: &G, called: Option<LinkNumber>, log: &mut G::Log)
     ensures { G.passed log.new ≡ with_exited (G.passed log.old) called }
 {
     match called {
@@ -99,7 +99,7 @@ fn exit_gate<G: Gate>(gate: &G, called: Option<LinkNumber>, log: &mut G::Log)
 }
 
 /// Why a link ended, by the frame that ended it, which begins at this place.
-fn link_end(end: FrameEnd, at: u64) -> LinkEnd
+pub fn link_end(end: FrameEnd, at: u64) -> LinkEnd
     ensures { result ≡ end_of_frame end at }
 {
     match end {

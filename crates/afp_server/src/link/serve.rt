@@ -22,7 +22,7 @@ use std::alloc::Global;
 use std::marker::Model;
 
 /// The most bytes that one read takes.
-const READ_SIZE: usize = 16_384;
+pub const READ_SIZE: usize = 16_384;
 
 /// Why a link ended.
 #[derive(Clone, Copy, Debug, PartialEq, Eq)]
@@ -152,7 +152,7 @@ fn read_more<L: Link>(link: &mut L, deframer: &mut Deframer) -> ReadResult
 }
 
 /// Why a link ended whose peer writes no more.
-fn end_of(deframer: &Deframer) -> LinkEnd
+pub fn end_of(deframer: &Deframer) -> LinkEnd
     ensures whole { deframer.now.rest ≡ [] → result ≡ LinkEnd.Ended }
     ensures cut { 0 < length deframer.now.rest → result ≡ LinkEnd.Cut deframer.now.place }
 {

@@ -114,6 +114,14 @@ impl LinkSession {
         })
     }
 
+    /// Goes on with another link, which has come so far; there is no reply.
+    pub fn resume(&mut self, stage: Stage)
+        ensures { self.new ≡ record self.old { stage = stage; reply = [] } }
+    {
+        self.stage = stage;
+        self.size = 0;
+    }
+
     /// Begins to count anew.
     pub fn begin_tally(&mut self)
         ensures { self.new ≡ record self.old { tally = no_tally } }

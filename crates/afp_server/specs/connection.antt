@@ -1,0 +1,5 @@
+pub mod Connection
+pub mod Standing
+pub mod Turn
+pub mod Whole
+pub mod lemma

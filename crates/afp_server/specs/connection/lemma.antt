@@ -1,0 +1,4 @@
+-- What the code goes by and what its proofs speak of; no public contract cites it.
+pub mod Begun
+pub mod Kept
+pub mod Quiet
