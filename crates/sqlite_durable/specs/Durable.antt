@@ -9,7 +9,7 @@ use Rattle.record_keeper.specs.Records.{Records}
 use Rattle.record_keeper.specs.Settling.{Answers}
 use Rattle.sqlite_durable.specs.Table.{no_schema, records_schema}
 use Rattle.sqlite_durable.specs.Kept.{records_of}
-use Rattle.sqlite_durable.specs.Turned.{records_in, Holds, LeavesAsBefore, LeavesOr}
+use Rattle.sqlite_durable.specs.Turned.{records_in, Holds, StaysOpen}
 
 -- the database, how often a statement was refused, and what was answered to settles
 pub record Durable (S : Type 0) : Type 0 where
@@ -34,13 +34,17 @@ IsFoundIn before now = ((before.schema ≡ records_schema) × (now ≡ before)) 
 abbrev pub IsOpen : {S : Type 0} → Ghosts S → Durable S → Type 0
 IsOpen g k = IsTrue (state g k.database).is_open
 
--- a crash leaves what it could leave before
-abbrev pub LeavesSame : {S : Type 0} → Ghosts S → Durable S → Durable S → Type 0
-LeavesSame g old new = IsOpen g old → LeavesAsBefore (state g old.database) (state g new.database)
+-- where the disk is clean, a keeper whose database is open has it open still, or its store counted a fault
+abbrev pub KeepsOpen : {S : Type 0} → Ghosts S → Durable S → Durable S → Type 0
+KeepsOpen g old new = StaysOpen (state g old.database) (state g new.database)
 
--- a crash leaves what it could leave before, or the records after this change
-abbrev pub LeavesChanged : {S : Type 0} → Ghosts S → (Records → Records) → Durable S → Durable S → Type 0
-LeavesChanged g change old new = IsOpen g old → LeavesOr change (state g old.database) (state g new.database)
+-- so far the disk gave back what was written, and nobody else wrote there
+abbrev pub lasts_of : {S : Type 0} → Ghosts S → Durable S → Bool
+lasts_of g k = (state g k.database).is_clean
+
+-- a stop at this moment may leave these records
+abbrev pub leaves_of : {S : Type 0} → Ghosts S → Durable S → Records → Type 0
+leaves_of g k r = (db : Trees) × (state g k.database).may_leave db × (r ≡ records_of (db 0))
 
 -- a crash leaves the records that are told, and nothing else
 abbrev pub LeavesTold : {S : Type 0} → Ghosts S → Durable S → Type 0

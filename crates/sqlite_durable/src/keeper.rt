@@ -1,18 +1,21 @@
 //! The keeper, how it starts, and its count of faults.
-ghost use Rattle.std.specs.Prelude.{◌≡◌, ◌≢◌, ◌⊎◌, ◌+◌, ◌++◌, ◌∷◌, [], IfOk, IfSome, OnOk, OnErr, IsErrOf, Err, true, false};
+ghost use Rattle.std.specs.Prelude.{◌≡◌, ◌≢◌, ◌⊎◌, ◌+◌, ◌++◌, ◌∷◌, ◌≤◌, [], IfOk, IfErr, IfSome, IsTrue, OnOk, OnErr, IsErrOf, true, false};
 ghost use Rattle.std.specs.FinMap.{get};
 ghost use Rattle.std.specs.Option.{option_copied};
 ghost use Rattle.record_keeper.specs.Causes.{HasCause};
 ghost use Rattle.record_keeper.specs.Records.{Makes, same_records, changed, IsNextKey};
 ghost use Rattle.sqlite.specs.Held.{state};
+ghost use Rattle.sqlite.specs.State.{HasCleanDisk};
+ghost use Rattle.sqlite_trees.specs.View.{doubt};
 ghost use Rattle.sqlite_durable.specs.Table.{no_schema, records_schema};
-ghost use Rattle.sqlite_durable.specs.Durable.{told_of, IsFoundIn, IsOpen, LeavesSame, LeavesChanged, LeavesTold};
+ghost use Rattle.sqlite_durable.specs.Durable.{told_of, lasts_of, leaves_of, IsFoundIn, IsOpen, KeepsOpen, LeavesTold};
+ghost use Rattle.record_keeper.specs.Stops.{Adds, AddsNone, Changed, IsSettled, TellsIf};
 
 use crate::{reading, schema, writing};
 use afp_base::Bytes;
 use ghost_log::Log;
 use record_keeper::{Change, Keeper, KeeperFault, RecordKey};
-use sqlite::{Alter, Connection, Row};
+use sqlite::{Alter, Connection, Error, Row};
 use sqlite_keeper::counted;
 use std::alloc::Global;
 use std::collections::VecDeque;
@@ -64,37 +67,65 @@ pub enum StartFault {
     Memory,
 }
 
+/// Why the table was not made.
+fn start_fault(error: Error) -> StartFault
+    ensures busy { result ≢ StartFault.InTransaction }
+    ensures others { result ≢ StartFault.OtherTables }
+{
+    match counted(&mut 0, error) {
+        KeeperFault::Failed => StartFault::Failed,
+        KeeperFault::Memory => StartFault::Memory,
+    }
+}
+
 impl<S: Alter + Drop> DurableKeeper<S> {
-    /// A keeper over a database. Where that has no table at all, the table is made, by a commit of its own.
-    pub fn new(mut connection: Connection<S>) -> Result<DurableKeeper<S>, StartFault>
+    /// A keeper over a database. Where that has no table at all, the table is made, by a commit of its own. A fault gives the database back.
+    pub fn new(
+        mut connection: Connection<S>,
+    ) -> Result<DurableKeeper<S>, (StartFault, Connection<S>)>
         ensures found { IfOk result (λ keeper. IsOpen S.Store keeper → IsFoundIn (state S.Store connection).now (state S.Store keeper.database).now) }
         ensures faults { IfOk result (λ keeper. keeper.faults ≡ 0) }
         ensures settles { IfOk result (λ keeper. keeper.settles ≡ []) }
-        ensures busy { result ≡ Err StartFault.InTransaction → connection.in_transaction ≡ true }
-        ensures others { result ≡ Err StartFault.OtherTables → (connection.schema ≢ records_schema) × (connection.schema ≢ no_schema) }
+        ensures busy { IfErr result (λ e. e.0 ≡ StartFault.InTransaction → connection.in_transaction ≡ true) }
+        ensures others { IfErr result (λ e. e.0 ≡ StartFault.OtherTables → (connection.schema ≢ records_schema) × (connection.schema ≢ no_schema)) }
         ensures tables { OnOk result ((connection.schema ≡ records_schema) ⊎ (connection.schema ≡ no_schema)) }
-        ensures unmade { result ≡ Err StartFault.Failed → connection.schema ≡ no_schema }
+        ensures unmade { IfErr result (λ e. e.0 ≡ StartFault.Failed → connection.schema ≡ no_schema) }
+        ensures clean { IfOk result (λ keeper. doubt (state S.Store connection).is_clean ≤ doubt (state S.Store keeper.database).is_clean) }
+        ensures tells { IfOk result (λ keeper. HasCleanDisk (state S.Store keeper.database) → IsTrue (state S.Store connection).is_open → IsOpen S.Store keeper) }
+        ensures settled { IfOk result (λ keeper. IsSettled (lasts_of S.Store keeper) (told_of S.Store keeper) (leaves_of S.Store keeper)) }
     {
         if !connection.is_autocommit() {
-            return Err(StartFault::InTransaction);
+            return Err((StartFault::InTransaction, connection));
         }
         if !schema::is_records(connection.schema()) {
             if !schema::is_blank(connection.schema()) {
-                return Err(StartFault::OtherTables);
+                return Err((StartFault::OtherTables, connection));
             }
             if let Err(error) = writing::make_table(&mut connection) {
-                return Err(match counted(&mut 0, error) {
-                    KeeperFault::Failed => StartFault::Failed,
-                    KeeperFault::Memory => StartFault::Memory,
-                });
+                return Err((start_fault(error), connection));
             }
         }
-        Ok(DurableKeeper {
+        let keeper = DurableKeeper {
             connection,
             ahead: None,
             faults: 0,
             settles: Log::new(),
-        })
+        };
+        keeper.leaves_what_it_tells();
+        Ok(keeper)
+    }
+
+    /// The database, given back.
+    pub fn into_connection(self) -> Connection<S>
+        ensures { result ≡ self.database }
+    {
+        let DurableKeeper {
+            connection,
+            ahead: _,
+            faults: _,
+            settles: _,
+        } = self;
+        connection
     }
 
     /// While the database is open, a crash between two calls leaves the records that are told, and nothing else.
@@ -102,6 +133,86 @@ impl<S: Alter + Drop> DurableKeeper<S> {
         ensures { LeavesTold S.Store self.now }
     {
         let _alone = self.connection.is_autocommit();
+    }
+
+    fn value(&mut self, alloc: Global, key: &RecordKey) -> Result<Option<Bytes>, KeeperFault>
+        ensures value { IfOk result (λ value. IfSome (told_of S.Store self.new) (λ kept. value ≡ get kept key.now)) }
+        ensures records { Makes same_records (told_of S.Store self.old) (told_of S.Store self.new) }
+        ensures cause { HasCause false self.old.faults self.new.faults result }
+        ensures one { IsErrOf result KeeperFault.Failed → self.new.faults ≡ self.old.faults + 1 }
+        ensures settles { self.new.settles ≡ self.old.settles }
+        ensures stops { AddsNone (lasts_of S.Store self.old) (lasts_of S.Store self.new) (leaves_of S.Store self.old) (leaves_of S.Store self.new) }
+        ensures open { KeepsOpen S.Store self.old self.new }
+        ensures tells { OnOk result (TellsIf (lasts_of S.Store self.new) (told_of S.Store self.new)) }
+    {
+        if !schema::is_records(self.connection.schema()) {
+            return Err(counted(&mut self.faults, Error::InvalidQuery));
+        }
+        match reading::value_of(alloc, &mut self.connection, &self.ahead, key) {
+            Ok(value) => Ok(value),
+            Err(error) => {
+                self.ahead = None;
+                Err(counted(&mut self.faults, error))
+            }
+        }
+    }
+
+    fn key_behind(
+        &mut self,
+        alloc: Global,
+        after: Option<&RecordKey>,
+    ) -> Result<Option<RecordKey>, KeeperFault>
+        ensures key { IfOk result (λ key. IfSome (told_of S.Store self.new) (λ kept. IsNextKey kept (option_copied after.entry) key)) }
+        ensures records { Makes same_records (told_of S.Store self.old) (told_of S.Store self.new) }
+        ensures cause { HasCause false self.old.faults self.new.faults result }
+        ensures one { IsErrOf result KeeperFault.Failed → self.new.faults ≡ self.old.faults + 1 }
+        ensures settles { self.new.settles ≡ self.old.settles }
+        ensures stops { AddsNone (lasts_of S.Store self.old) (lasts_of S.Store self.new) (leaves_of S.Store self.old) (leaves_of S.Store self.new) }
+        ensures open { KeepsOpen S.Store self.old self.new }
+        ensures tells { OnOk result (TellsIf (lasts_of S.Store self.new) (told_of S.Store self.new)) }
+    {
+        if !schema::is_records(self.connection.schema()) {
+            return Err(counted(&mut self.faults, Error::InvalidQuery));
+        }
+        match reading::key_after(alloc, &mut self.connection, &mut self.ahead, after) {
+            Ok(key) => Ok(key),
+            Err(error) => {
+                self.ahead = None;
+                Err(counted(&mut self.faults, error))
+            }
+        }
+    }
+
+    fn make(&mut self, alloc: Global, changes: Vec<Change>) -> Result<(), KeeperFault>
+        ensures ok { OnOk result (Makes (changed changes.items) (told_of S.Store self.old) (told_of S.Store self.new)) }
+        ensures err { OnErr result (Makes same_records (told_of S.Store self.old) (told_of S.Store self.new)) }
+        ensures cause { HasCause false self.old.faults self.new.faults result }
+        ensures one { IsErrOf result KeeperFault.Failed → self.new.faults ≡ self.old.faults + 1 }
+        ensures settles { self.new.settles ≡ self.old.settles }
+        ensures stops { Adds (lasts_of S.Store self.old) (lasts_of S.Store self.new) (leaves_of S.Store self.old) (leaves_of S.Store self.new) (Changed (changed changes.items) (told_of S.Store self.old) result) }
+        ensures open { KeepsOpen S.Store self.old self.new }
+        ensures tells { OnOk result (TellsIf (lasts_of S.Store self.new) (told_of S.Store self.new)) }
+    {
+        self.ahead = None; // a commit changes the records
+        if self.faults == u64::MAX {
+            return Err(KeeperFault::Memory);
+        }
+        if !schema::is_records(self.connection.schema()) {
+            return Err(counted(&mut self.faults, Error::InvalidQuery));
+        }
+        let any = RecordKey::new(Bytes::new(alloc));
+        let mut tried = false;
+        match writing::make_all(&mut self.connection, &any, changes.as_slice(), &mut tried) {
+            Ok(()) => Ok(()),
+            Err(error) => {
+                if tried {
+                    self.faults += 1;
+                    Err(KeeperFault::Failed)
+                } else {
+                    Err(counted(&mut self.faults, error))
+                }
+            }
+        }
     }
 }
 
@@ -116,18 +227,24 @@ impl<S: Alter + Drop> Keeper for DurableKeeper<S> {
 
     ghost settles = { λ k. k.settles };
 
+    ghost lasts = { λ k. lasts_of S.Store k };
+
+    ghost leaves = { λ k. leaves_of S.Store k };
+
     fn read(&mut self, alloc: Global, key: &RecordKey) -> Result<Option<Bytes>, KeeperFault>
         ensures value { IfOk result (λ value. IfSome (told_of S.Store self.new) (λ kept. value ≡ get kept key.now)) }
         ensures records { Makes same_records (told_of S.Store self.old) (told_of S.Store self.new) }
         ensures cause { HasCause false self.old.faults self.new.faults result }
         ensures one { IsErrOf result KeeperFault.Failed → self.new.faults ≡ self.old.faults + 1 }
         ensures settles { self.new.settles ≡ self.old.settles }
-        ensures crash { LeavesSame S.Store self.old self.new }
+        ensures stops { AddsNone (lasts_of S.Store self.old) (lasts_of S.Store self.new) (leaves_of S.Store self.old) (leaves_of S.Store self.new) }
+        ensures open { KeepsOpen S.Store self.old self.new }
+        ensures settled { IsSettled (lasts_of S.Store self.new) (told_of S.Store self.new) (leaves_of S.Store self.new) }
+        ensures tells { OnOk result (TellsIf (lasts_of S.Store self.new) (told_of S.Store self.new)) }
     {
-        match reading::value_of(alloc, &mut self.connection, &self.ahead, key) {
-            Ok(value) => Ok(value),
-            Err(error) => Err(counted(&mut self.faults, error)),
-        }
+        let answer = self.value(alloc, key);
+        self.leaves_what_it_tells();
+        answer
     }
 
     fn next_key(
@@ -140,27 +257,30 @@ impl<S: Alter + Drop> Keeper for DurableKeeper<S> {
         ensures cause { HasCause false self.old.faults self.new.faults result }
         ensures one { IsErrOf result KeeperFault.Failed → self.new.faults ≡ self.old.faults + 1 }
         ensures settles { self.new.settles ≡ self.old.settles }
-        ensures crash { LeavesSame S.Store self.old self.new }
+        ensures stops { AddsNone (lasts_of S.Store self.old) (lasts_of S.Store self.new) (leaves_of S.Store self.old) (leaves_of S.Store self.new) }
+        ensures open { KeepsOpen S.Store self.old self.new }
+        ensures settled { IsSettled (lasts_of S.Store self.new) (told_of S.Store self.new) (leaves_of S.Store self.new) }
+        ensures tells { OnOk result (TellsIf (lasts_of S.Store self.new) (told_of S.Store self.new)) }
     {
-        match reading::key_after(alloc, &mut self.connection, &mut self.ahead, after) {
-            Ok(key) => Ok(key),
-            Err(error) => Err(counted(&mut self.faults, error)),
-        }
+        let answer = self.key_behind(alloc, after);
+        self.leaves_what_it_tells();
+        answer
     }
 
-    fn commit(&mut self, _alloc: Global, changes: Vec<Change>) -> Result<(), KeeperFault>
+    fn commit(&mut self, alloc: Global, changes: Vec<Change>) -> Result<(), KeeperFault>
         ensures ok { OnOk result (Makes (changed changes.items) (told_of S.Store self.old) (told_of S.Store self.new)) }
         ensures err { OnErr result (Makes same_records (told_of S.Store self.old) (told_of S.Store self.new)) }
         ensures cause { HasCause false self.old.faults self.new.faults result }
         ensures one { IsErrOf result KeeperFault.Failed → self.new.faults ≡ self.old.faults + 1 }
         ensures settles { self.new.settles ≡ self.old.settles }
-        ensures crash { LeavesChanged S.Store (changed changes.items) self.old self.new }
+        ensures stops { Adds (lasts_of S.Store self.old) (lasts_of S.Store self.new) (leaves_of S.Store self.old) (leaves_of S.Store self.new) (Changed (changed changes.items) (told_of S.Store self.old) result) }
+        ensures open { KeepsOpen S.Store self.old self.new }
+        ensures settled { IsSettled (lasts_of S.Store self.new) (told_of S.Store self.new) (leaves_of S.Store self.new) }
+        ensures tells { OnOk result (TellsIf (lasts_of S.Store self.new) (told_of S.Store self.new)) }
     {
-        self.ahead = None;
-        match writing::make_all(&mut self.connection, changes.as_slice()) {
-            Ok(()) => Ok(()),
-            Err(error) => Err(counted(&mut self.faults, error)),
-        }
+        let answer = self.make(alloc, changes);
+        self.leaves_what_it_tells();
+        answer
     }
 
     /// Each commit is on the disk before it is told, so nothing is left to do.
@@ -170,9 +290,11 @@ impl<S: Alter + Drop> Keeper for DurableKeeper<S> {
         ensures records { Makes same_records (told_of S.Store self.old) (told_of S.Store self.new) }
         ensures cause { HasCause false self.old.faults self.new.faults result }
         ensures settles { self.new.settles ≡ self.old.settles ++ result ∷ [] }
+        ensures settled { IsSettled (lasts_of S.Store self.new) (told_of S.Store self.new) (leaves_of S.Store self.new) }
     {
         let answer = Ok(());
         self.settles = self.settles.and(&answer);
+        self.leaves_what_it_tells();
         answer
     }
 }

@@ -1,12 +1,13 @@
 //! The statements that read the table.
-ghost use Rattle.std.specs.Prelude.{◌≡◌, IfOk, OnOk, OnErr, IsTrue, Some, None, false};
+ghost use Rattle.std.specs.Prelude.{◌≡◌, ◌≤◌, [], IfOk, OnOk, OnErr, IsTrue, Some, None, false};
 ghost use Rattle.std.specs.FinMap.{get};
 ghost use Rattle.std.specs.Option.{option_copied};
 ghost use Rattle.sqlite.specs.Held.{state};
-ghost use Rattle.sqlite.specs.State.{IsUnchanged};
+ghost use Rattle.sqlite.specs.State.{HasCleanDisk, IsUnchanged};
+ghost use Rattle.sqlite_trees.specs.View.{doubt};
 ghost use Rattle.record_keeper.specs.Records.{IsNextKey};
 ghost use Rattle.sqlite_durable.specs.Table.{records_schema};
-ghost use Rattle.sqlite_durable.specs.Turned.{records_in, LeavesAsBefore};
+ghost use Rattle.sqlite_durable.specs.Turned.{records_in, LeavesAsBefore, StaysOpen};
 ghost use Rattle.sqlite_durable.specs.lemma.Ahead.{first_key, rows_in, IsPage, IsRun};
 
 use crate::ahead::{goes_on, key_ahead, value_ahead};
@@ -29,13 +30,16 @@ fn value_at<S: Alter>(
     connection: &mut Connection<S>,
     key: &RecordKey,
 ) -> Result<Option<Bytes>, Error>
-    requires schema { IsTrue (state S.Store connection.old).is_open → (state S.Store connection.old).now.schema ≡ records_schema }
+    requires schema { (state S.Store connection.old).now.schema ≡ records_schema }
     requires mode { connection.old.in_transaction ≡ false }
     ensures value { IsTrue (state S.Store connection.new).is_open → IfOk result (λ value. value ≡ get (records_in (state S.Store connection.old).now) key.now) }
     ensures same { IsTrue (state S.Store connection.new).is_open → OnOk result (IsUnchanged (state S.Store connection.old) (state S.Store connection.new)) }
     ensures err { IsTrue (state S.Store connection.new).is_open → OnErr result (IsTrue (state S.Store connection.old).is_open × ((state S.Store connection.new).now ≡ (state S.Store connection.old).now)) }
     ensures mode { connection.new.in_transaction ≡ false }
-    ensures crash { IsTrue (state S.Store connection.old).is_open → LeavesAsBefore (state S.Store connection.old) (state S.Store connection.new) }
+    ensures open { HasCleanDisk (state S.Store connection.new) → OnOk result (IsTrue (state S.Store connection.new).is_open) }
+    ensures clean { doubt (state S.Store connection.old).is_clean ≤ doubt (state S.Store connection.new).is_clean }
+    ensures closes { StaysOpen (state S.Store connection.old) (state S.Store connection.new) }
+    ensures crash { LeavesAsBefore (state S.Store connection.old) (state S.Store connection.new) }
 {
     let _alone = connection.is_autocommit();
     let _live = connection.schema();
@@ -45,13 +49,16 @@ fn value_at<S: Alter>(
 
 /// The first records.
 fn first_page<S: Alter>(connection: &mut Connection<S>) -> Result<Vec<Row>, Error>
-    requires schema { IsTrue (state S.Store connection.old).is_open → (state S.Store connection.old).now.schema ≡ records_schema }
+    requires schema { (state S.Store connection.old).now.schema ≡ records_schema }
     requires mode { connection.old.in_transaction ≡ false }
     ensures page { IsTrue (state S.Store connection.new).is_open → IfOk result (λ rows. IsPage (records_in (state S.Store connection.old).now) None rows.items) }
     ensures same { IsTrue (state S.Store connection.new).is_open → OnOk result (IsUnchanged (state S.Store connection.old) (state S.Store connection.new)) }
     ensures err { IsTrue (state S.Store connection.new).is_open → OnErr result (IsTrue (state S.Store connection.old).is_open × ((state S.Store connection.new).now ≡ (state S.Store connection.old).now)) }
     ensures mode { connection.new.in_transaction ≡ false }
-    ensures crash { IsTrue (state S.Store connection.old).is_open → LeavesAsBefore (state S.Store connection.old) (state S.Store connection.new) }
+    ensures open { HasCleanDisk (state S.Store connection.new) → OnOk result (IsTrue (state S.Store connection.new).is_open) }
+    ensures clean { doubt (state S.Store connection.old).is_clean ≤ doubt (state S.Store connection.new).is_clean }
+    ensures closes { StaysOpen (state S.Store connection.old) (state S.Store connection.new) }
+    ensures crash { LeavesAsBefore (state S.Store connection.old) (state S.Store connection.new) }
 {
     let _alone = connection.is_autocommit();
     let _live = connection.schema();
@@ -61,13 +68,16 @@ fn first_page<S: Alter>(connection: &mut Connection<S>) -> Result<Vec<Row>, Erro
 
 /// The records behind a key.
 fn page_above<S: Alter>(connection: &mut Connection<S>, key: &RecordKey) -> Result<Vec<Row>, Error>
-    requires schema { IsTrue (state S.Store connection.old).is_open → (state S.Store connection.old).now.schema ≡ records_schema }
+    requires schema { (state S.Store connection.old).now.schema ≡ records_schema }
     requires mode { connection.old.in_transaction ≡ false }
     ensures page { IsTrue (state S.Store connection.new).is_open → IfOk result (λ rows. IsPage (records_in (state S.Store connection.old).now) (Some key.now) rows.items) }
     ensures same { IsTrue (state S.Store connection.new).is_open → OnOk result (IsUnchanged (state S.Store connection.old) (state S.Store connection.new)) }
     ensures err { IsTrue (state S.Store connection.new).is_open → OnErr result (IsTrue (state S.Store connection.old).is_open × ((state S.Store connection.new).now ≡ (state S.Store connection.old).now)) }
     ensures mode { connection.new.in_transaction ≡ false }
-    ensures crash { IsTrue (state S.Store connection.old).is_open → LeavesAsBefore (state S.Store connection.old) (state S.Store connection.new) }
+    ensures open { HasCleanDisk (state S.Store connection.new) → OnOk result (IsTrue (state S.Store connection.new).is_open) }
+    ensures clean { doubt (state S.Store connection.old).is_clean ≤ doubt (state S.Store connection.new).is_clean }
+    ensures closes { StaysOpen (state S.Store connection.old) (state S.Store connection.new) }
+    ensures crash { LeavesAsBefore (state S.Store connection.old) (state S.Store connection.new) }
 {
     let _alone = connection.is_autocommit();
     let _live = connection.schema();
@@ -80,12 +90,15 @@ fn page_after<S: Alter>(
     connection: &mut Connection<S>,
     after: Option<&RecordKey>,
 ) -> Result<Vec<Row>, Error>
-    requires schema { IsTrue (state S.Store connection.old).is_open → (state S.Store connection.old).now.schema ≡ records_schema }
+    requires schema { (state S.Store connection.old).now.schema ≡ records_schema }
     requires mode { connection.old.in_transaction ≡ false }
     ensures page { IsTrue (state S.Store connection.new).is_open → IfOk result (λ rows. IsPage (records_in (state S.Store connection.old).now) (option_copied after.entry) rows.items) }
     ensures kept { IsTrue (state S.Store connection.new).is_open → IsTrue (state S.Store connection.old).is_open × ((state S.Store connection.new).now ≡ (state S.Store connection.old).now) }
     ensures mode { connection.new.in_transaction ≡ false }
-    ensures crash { IsTrue (state S.Store connection.old).is_open → LeavesAsBefore (state S.Store connection.old) (state S.Store connection.new) }
+    ensures open { HasCleanDisk (state S.Store connection.new) → OnOk result (IsTrue (state S.Store connection.new).is_open) }
+    ensures clean { doubt (state S.Store connection.old).is_clean ≤ doubt (state S.Store connection.new).is_clean }
+    ensures closes { StaysOpen (state S.Store connection.old) (state S.Store connection.new) }
+    ensures crash { LeavesAsBefore (state S.Store connection.old) (state S.Store connection.new) }
 {
     match after {
         None => first_page(connection),
@@ -99,14 +112,18 @@ fn turn_to<S: Alter>(
     ahead: &mut Option<VecDeque<Row>>,
     after: Option<&RecordKey>,
 ) -> Result<(), Error>
-    requires schema { IsTrue (state S.Store connection.old).is_open → (state S.Store connection.old).now.schema ≡ records_schema }
+    requires schema { (state S.Store connection.old).now.schema ≡ records_schema }
     requires mode { connection.old.in_transaction ≡ false }
     requires run { IsTrue (state S.Store connection.old).is_open → IsRun (records_in (state S.Store connection.old).now) (rows_in ahead.old) }
+    requires live { HasCleanDisk (state S.Store connection.old) → (rows_in ahead.old ≡ [] → ⊥) → IsTrue (state S.Store connection.old).is_open }
     ensures next { IsTrue (state S.Store connection.new).is_open → OnOk result (IsNextKey (records_in (state S.Store connection.old).now) (option_copied after.entry) (first_key (rows_in ahead.new))) }
     ensures run { IsTrue (state S.Store connection.new).is_open → IsRun (records_in (state S.Store connection.old).now) (rows_in ahead.new) }
     ensures kept { IsTrue (state S.Store connection.new).is_open → IsTrue (state S.Store connection.old).is_open × ((state S.Store connection.new).now ≡ (state S.Store connection.old).now) }
     ensures mode { connection.new.in_transaction ≡ false }
-    ensures crash { IsTrue (state S.Store connection.old).is_open → LeavesAsBefore (state S.Store connection.old) (state S.Store connection.new) }
+    ensures open { HasCleanDisk (state S.Store connection.new) → OnOk result (IsTrue (state S.Store connection.new).is_open) }
+    ensures clean { doubt (state S.Store connection.old).is_clean ≤ doubt (state S.Store connection.new).is_clean }
+    ensures closes { StaysOpen (state S.Store connection.old) (state S.Store connection.new) }
+    ensures crash { LeavesAsBefore (state S.Store connection.old) (state S.Store connection.new) }
 {
     if goes_on(ahead, after) {
         return Ok(());
@@ -123,14 +140,18 @@ pub(crate) fn key_after<S: Alter>(
     ahead: &mut Option<VecDeque<Row>>,
     after: Option<&RecordKey>,
 ) -> Result<Option<RecordKey>, Error>
-    requires schema { IsTrue (state S.Store connection.old).is_open → (state S.Store connection.old).now.schema ≡ records_schema }
+    requires schema { (state S.Store connection.old).now.schema ≡ records_schema }
     requires mode { connection.old.in_transaction ≡ false }
     requires run { IsTrue (state S.Store connection.old).is_open → IsRun (records_in (state S.Store connection.old).now) (rows_in ahead.old) }
+    requires live { HasCleanDisk (state S.Store connection.old) → (rows_in ahead.old ≡ [] → ⊥) → IsTrue (state S.Store connection.old).is_open }
     ensures key { IsTrue (state S.Store connection.new).is_open → IfOk result (IsNextKey (records_in (state S.Store connection.old).now) (option_copied after.entry)) }
     ensures run { IsTrue (state S.Store connection.new).is_open → IsRun (records_in (state S.Store connection.old).now) (rows_in ahead.new) }
     ensures kept { IsTrue (state S.Store connection.new).is_open → IsTrue (state S.Store connection.old).is_open × ((state S.Store connection.new).now ≡ (state S.Store connection.old).now) }
     ensures mode { connection.new.in_transaction ≡ false }
-    ensures crash { IsTrue (state S.Store connection.old).is_open → LeavesAsBefore (state S.Store connection.old) (state S.Store connection.new) }
+    ensures open { HasCleanDisk (state S.Store connection.new) → OnOk result (IsTrue (state S.Store connection.new).is_open) }
+    ensures clean { doubt (state S.Store connection.old).is_clean ≤ doubt (state S.Store connection.new).is_clean }
+    ensures closes { StaysOpen (state S.Store connection.old) (state S.Store connection.new) }
+    ensures crash { LeavesAsBefore (state S.Store connection.old) (state S.Store connection.new) }
 {
     turn_to(connection, ahead, after)?;
     key_ahead(alloc, ahead)
@@ -143,13 +164,17 @@ pub(crate) fn value_of<S: Alter>(
     ahead: &Option<VecDeque<Row>>,
     key: &RecordKey,
 ) -> Result<Option<Bytes>, Error>
-    requires schema { IsTrue (state S.Store connection.old).is_open → (state S.Store connection.old).now.schema ≡ records_schema }
+    requires schema { (state S.Store connection.old).now.schema ≡ records_schema }
     requires mode { connection.old.in_transaction ≡ false }
     requires run { IsTrue (state S.Store connection.old).is_open → IsRun (records_in (state S.Store connection.old).now) (rows_in ahead.now) }
+    requires live { HasCleanDisk (state S.Store connection.old) → (rows_in ahead.now ≡ [] → ⊥) → IsTrue (state S.Store connection.old).is_open }
     ensures value { IsTrue (state S.Store connection.new).is_open → IfOk result (λ value. value ≡ get (records_in (state S.Store connection.old).now) key.now) }
     ensures kept { IsTrue (state S.Store connection.new).is_open → IsTrue (state S.Store connection.old).is_open × ((state S.Store connection.new).now ≡ (state S.Store connection.old).now) }
     ensures mode { connection.new.in_transaction ≡ false }
-    ensures crash { IsTrue (state S.Store connection.old).is_open → LeavesAsBefore (state S.Store connection.old) (state S.Store connection.new) }
+    ensures open { HasCleanDisk (state S.Store connection.new) → OnOk result (IsTrue (state S.Store connection.new).is_open) }
+    ensures clean { doubt (state S.Store connection.old).is_clean ≤ doubt (state S.Store connection.new).is_clean }
+    ensures closes { StaysOpen (state S.Store connection.old) (state S.Store connection.new) }
+    ensures crash { LeavesAsBefore (state S.Store connection.old) (state S.Store connection.new) }
 {
     match value_ahead(alloc, ahead, key)? {
         Some(value) => Ok(Some(value)),

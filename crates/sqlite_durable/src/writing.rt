@@ -1,11 +1,12 @@
 //! The statements that change the table.
-ghost use Rattle.std.specs.Prelude.{◌≡◌, ℕ, List, IfOk, OnOk, OnErr, IsTrue, Some, None, false};
+ghost use Rattle.std.specs.Prelude.{◌≡◌, ◌≤◌, ℕ, List, IfOk, OnOk, OnErr, IsTrue, Some, None, false};
+ghost use Rattle.sqlite_trees.specs.View.{doubt};
 ghost use Rattle.std.specs.FinMap.{get, insert, remove, empty};
 ghost use Rattle.sqlite.specs.Held.{state};
 ghost use Rattle.sqlite.specs.State.{HasCleanDisk, Survives, IsUnchanged, KeepsCommit};
 ghost use Rattle.record_keeper.specs.Records.{changed, changed_by};
 ghost use Rattle.sqlite_durable.specs.Table.{no_schema, records_schema};
-ghost use Rattle.sqlite_durable.specs.Turned.{HasTable, Holds, Turns, records_in, LeavesOr};
+ghost use Rattle.sqlite_durable.specs.Turned.{HasTable, Holds, Turns, records_in, LeavesAsBefore, LeavesOrTold, StaysOpen};
 ghost use Rattle.sqlite_durable.specs.Kept.{IsPlaceOf};
 
 use crate::rows::only_number;
@@ -34,6 +35,7 @@ fn find<S: Alter>(
         → IfOk result (IsPlaceOf key.now ((state S.Store transaction.old.conn.now).now.trees 0)) }
     ensures same { HasCleanDisk (state S.Store transaction.new.conn.now) → HasTable (state S.Store transaction.old.conn.now).now
         → OnOk result (IsUnchanged (state S.Store transaction.old.conn.now) (state S.Store transaction.new.conn.now)) }
+    ensures open { HasCleanDisk (state S.Store transaction.new.conn.now) → OnOk result (IsTrue (state S.Store transaction.old.conn.now).is_open) }
     ensures inside { HasCleanDisk (state S.Store transaction.new.conn.now) → IsTrue (state S.Store transaction.old.conn.now).in_transaction → OnOk result (IsTrue (state S.Store transaction.new.conn.now).in_transaction) }
     ensures kept { HasCleanDisk (state S.Store transaction.new.conn.now) → IsTrue (state S.Store transaction.old.conn.now).in_transaction
         → KeepsCommit (state S.Store transaction.old.conn.now) (state S.Store transaction.new.conn.now) }
@@ -167,22 +169,48 @@ fn make_each<S: Alter>(
     Ok(())
 }
 
-/// Makes all changes in one transaction, or none.
-pub(crate) fn make_all<S: Alter>(
-    connection: &mut Connection<S>,
+/// Looks for a key, whichever, and makes the changes. So they are made only where the database is open.
+fn change_all<S: Alter>(
+    transaction: &mut Transaction<'_, S>,
+    any: &RecordKey,
     changes: &[Change],
 ) -> Result<(), Error>
-    requires schema { IsTrue (state S.Store connection.old).is_open → (state S.Store connection.old).now.schema ≡ records_schema }
+    ensures same_reference { transaction.new.conn.ghost_name ≡ transaction.old.conn.ghost_name }
+    ensures turns { HasCleanDisk (state S.Store transaction.new.conn.now) → IsTrue (state S.Store transaction.old.conn.now).in_transaction → HasTable (state S.Store transaction.old.conn.now).now
+        → OnOk result (Turns (changed changes.now) (state S.Store transaction.old.conn.now).now (state S.Store transaction.new.conn.now).now) }
+    ensures open { HasCleanDisk (state S.Store transaction.new.conn.now) → OnOk result (IsTrue (state S.Store transaction.old.conn.now).is_open) }
+    ensures inside { HasCleanDisk (state S.Store transaction.new.conn.now) → IsTrue (state S.Store transaction.old.conn.now).in_transaction → OnOk result (IsTrue (state S.Store transaction.new.conn.now).in_transaction) }
+    ensures kept { HasCleanDisk (state S.Store transaction.new.conn.now) → IsTrue (state S.Store transaction.old.conn.now).in_transaction
+        → KeepsCommit (state S.Store transaction.old.conn.now) (state S.Store transaction.new.conn.now) }
+    ensures crash { Survives (state S.Store transaction.old.conn.now) (state S.Store transaction.new.conn.now) (λ _. ⊥) }
+{
+    find(transaction, any)?;
+    make_each(transaction, changes)
+}
+
+/// Makes all changes in one transaction, or none. `tried` tells whether the commit was begun: before that nothing reaches the disk.
+pub(crate) fn make_all<S: Alter>(
+    connection: &mut Connection<S>,
+    any: &RecordKey,
+    changes: &[Change],
+    tried: &mut bool,
+) -> Result<(), Error>
+    requires schema { (state S.Store connection.old).now.schema ≡ records_schema }
     requires mode { connection.old.in_transaction ≡ false }
     ensures ok { IsTrue (state S.Store connection.new).is_open → OnOk result (IsTrue (state S.Store connection.old).is_open × Turns (changed changes.now) (state S.Store connection.old).now (state S.Store connection.new).now) }
     ensures err { IsTrue (state S.Store connection.new).is_open → OnErr result (IsTrue (state S.Store connection.old).is_open × ((state S.Store connection.new).now ≡ (state S.Store connection.old).now)) }
     ensures mode { connection.new.in_transaction ≡ false }
-    ensures crash { IsTrue (state S.Store connection.old).is_open → LeavesOr (changed changes.now) (state S.Store connection.old) (state S.Store connection.new) }
+    ensures open { HasCleanDisk (state S.Store connection.new) → OnOk result (IsTrue (state S.Store connection.new).is_open) }
+    ensures clean { doubt (state S.Store connection.old).is_clean ≤ doubt (state S.Store connection.new).is_clean }
+    ensures closes { StaysOpen (state S.Store connection.old) (state S.Store connection.new) }
+    ensures crash { LeavesOrTold (changed changes.now) (state S.Store connection.old) (state S.Store connection.new) }
+    ensures refused { tried.new ≡ false → LeavesAsBefore (state S.Store connection.old) (state S.Store connection.new) }
 {
     let _alone = connection.is_autocommit();
     let _live = connection.schema();
     let mut transaction = connection.transaction();
-    make_each(&mut transaction, changes)?;
+    change_all(&mut transaction, any, changes)?;
+    *tried = true;
     transaction.commit()
 }
 
@@ -205,6 +233,8 @@ pub(crate) fn make_table<S: Alter>(connection: &mut Connection<S>) -> Result<(),
     requires mode { connection.old.in_transaction ≡ false }
     ensures ok { IsTrue (state S.Store connection.new).is_open → OnOk result (Holds (state S.Store connection.new).now empty) }
     ensures mode { connection.new.in_transaction ≡ false }
+    ensures open { HasCleanDisk (state S.Store connection.new) → OnOk result (IsTrue (state S.Store connection.new).is_open) }
+    ensures clean { doubt (state S.Store connection.old).is_clean ≤ doubt (state S.Store connection.new).is_clean }
 {
     let mut transaction = connection.transaction();
     make_in(&mut transaction)?;

@@ -11,13 +11,13 @@ use Rattle.sqlite_durable.specs.lemma.Ahead.{IsPage}
 use Rattle.sqlite_durable.proofs.Texts.{above_plain}
 use Rattle.sqlite_durable.proofs.ReadLemmas.{key_row}
 use Rattle.sqlite_durable.proofs.PageLemmas.{above_told}
-use Rattle.sqlite_durable.proofs.ShapeLemmas.{rows_are, shown_same, shown_open, open_clean, fails_now, on_err, leaves_as_before, commits_nothing, ok_both}
+use Rattle.sqlite_durable.proofs.ShapeLemmas.{rows_are, shown_same, shown_open, open_clean, fails_now, on_err, leaves_as_before, commits_nothing, ok_both, ok_of}
 use Rattle.sqlite_durable.proofs.reading.page_above.Goals as goal
 
 pub returns-clause-same : goal.returns-clause-same
 returns-clause-same g c on =
     let clean : HasCleanDisk (state g.S.Store c.query_all.new.self) = open_clean _ _ (g.met.S.Store.shut_if_dirty c.query_all.new.self.store) on in
-    let schema = c.requires.schema (shown_open page_above_text _ _ _ _ (c.in_ok-rows.ensures.ok clean)) in
+    let schema = c.requires.schema in
     let old = state g.S.Store c.args.connection.now in
     let plain = subst (λ s. IsPlain (understood s page_above_text)) (sym schema) above_plain in
     let same : IsUnchanged old (state g.S.Store c.query_all.new.self) = shown_same page_above_text _ old _ _ plain (c.in_ok-rows.ensures.ok clean) in
@@ -26,7 +26,7 @@ returns-clause-same g c on =
 pub returns-clause-page : goal.returns-clause-page
 returns-clause-page g c on =
     let clean : HasCleanDisk (state g.S.Store c.query_all.new.self) = open_clean _ _ (g.met.S.Store.shut_if_dirty c.query_all.new.self.store) on in
-    let schema = c.requires.schema (shown_open page_above_text _ _ _ _ (c.in_ok-rows.ensures.ok clean)) in
+    let schema = c.requires.schema in
     let old = state g.S.Store c.args.connection.now in
     let now = state g.S.Store c.query_all.new.self in
     let plain = subst (λ s. IsPlain (understood s page_above_text)) (sym schema) above_plain in
@@ -47,13 +47,25 @@ pub returns-clause-err : goal.returns-clause-err
 returns-clause-err g c on =
     let clean : HasCleanDisk (state g.S.Store c.query_all.new.self) = open_clean _ _ (g.met.S.Store.shut_if_dirty c.query_all.new.self.store) on in
     let was = shown_open page_above_text _ _ _ _ (c.in_ok-rows.ensures.ok clean) in
-    let schema = c.requires.schema was in
+    let schema = c.requires.schema in
     let plain = subst (λ s. IsPlain (understood s page_above_text)) (sym schema) above_plain in
     let same : IsUnchanged (state g.S.Store c.args.connection.now) (state g.S.Store c.query_all.new.self) = shown_same page_above_text _ _ _ _ plain (c.in_ok-rows.ensures.ok clean) in
     on_err c.page_of.result (was, same.0.now_is)
 
 pub returns-in_err-rows-clause-crash : goal.returns-in_err-rows-clause-crash
-returns-in_err-rows-clause-crash g c on = leaves_as_before _ _ (commits_nothing page_above_text _ (state g.S.Store c.args.connection.now) (state g.S.Store c.query_all.new.self) (c.requires.schema on) above_plain c.query_all.ensures.survives)
+returns-in_err-rows-clause-crash g c = leaves_as_before _ _ (commits_nothing page_above_text _ (state g.S.Store c.args.connection.now) (state g.S.Store c.query_all.new.self) c.requires.schema above_plain c.query_all.ensures.survives)
 
 pub returns-clause-crash : goal.returns-clause-crash
-returns-clause-crash g c on = leaves_as_before _ _ (commits_nothing page_above_text _ (state g.S.Store c.args.connection.now) (state g.S.Store c.query_all.new.self) (c.requires.schema on) above_plain c.query_all.ensures.survives)
+returns-clause-crash g c = leaves_as_before _ _ (commits_nothing page_above_text _ (state g.S.Store c.args.connection.now) (state g.S.Store c.query_all.new.self) c.requires.schema above_plain c.query_all.ensures.survives)
+
+pub returns-clause-open : goal.returns-clause-open
+returns-clause-open g c clean =
+    let plain = subst (λ s. IsPlain (understood s page_above_text)) (sym c.requires.schema) above_plain in
+    let same : IsUnchanged (state g.S.Store c.args.connection.now) (state g.S.Store c.query_all.new.self) = shown_same page_above_text _ _ _ _ plain (c.in_ok-rows.ensures.ok clean) in
+    ok_of c.page_of.result same.0.is_open
+
+pub returns-in_err-rows-clause-closes : goal.returns-in_err-rows-clause-closes
+returns-in_err-rows-clause-closes g c = c.query_all.ensures.survives.closes
+
+pub returns-clause-closes : goal.returns-clause-closes
+returns-clause-closes g c = c.query_all.ensures.survives.closes

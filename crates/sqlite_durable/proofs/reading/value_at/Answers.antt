@@ -10,13 +10,13 @@ use Rattle.sqlite_durable.specs.Table.{read_text}
 use Rattle.sqlite_durable.specs.Kept.{records_of}
 use Rattle.sqlite_durable.proofs.Texts.{read_plain}
 use Rattle.sqlite_durable.proofs.ReadLemmas.{key_row, reads_one}
-use Rattle.sqlite_durable.proofs.ShapeLemmas.{bytes_told, rows_are, shown_same, shown_open, open_clean, fails_now, on_err, leaves_as_before, commits_nothing}
+use Rattle.sqlite_durable.proofs.ShapeLemmas.{bytes_told, rows_are, shown_same, shown_open, open_clean, fails_now, on_err, leaves_as_before, commits_nothing, ok_of}
 use Rattle.sqlite_durable.proofs.reading.value_at.Goals as goal
 
 pub returns-clause-same : goal.returns-clause-same
 returns-clause-same g c on =
     let clean : HasCleanDisk (state g.S.Store c.query_all.new.self) = open_clean _ _ (g.met.S.Store.shut_if_dirty c.query_all.new.self.store) on in
-    let schema = c.requires.schema (shown_open read_text _ _ _ _ (c.in_ok-rows.ensures.ok clean)) in
+    let schema = c.requires.schema in
     let old = state g.S.Store c.args.connection.now in
     let plain = subst (λ s. IsPlain (understood s read_text)) (sym schema) read_plain in
     let same : IsUnchanged old (state g.S.Store c.query_all.new.self) = shown_same read_text _ old _ _ plain (c.in_ok-rows.ensures.ok clean) in
@@ -25,7 +25,7 @@ returns-clause-same g c on =
 pub returns-clause-value : goal.returns-clause-value
 returns-clause-value g c on =
     let clean : HasCleanDisk (state g.S.Store c.query_all.new.self) = open_clean _ _ (g.met.S.Store.shut_if_dirty c.query_all.new.self.store) on in
-    let schema = c.requires.schema (shown_open read_text _ _ _ _ (c.in_ok-rows.ensures.ok clean)) in
+    let schema = c.requires.schema in
     let old = state g.S.Store c.args.connection.now in
     let now = state g.S.Store c.query_all.new.self in
     let plain = subst (λ s. IsPlain (understood s read_text)) (sym schema) read_plain in
@@ -48,13 +48,25 @@ pub returns-clause-err : goal.returns-clause-err
 returns-clause-err g c on =
     let clean : HasCleanDisk (state g.S.Store c.query_all.new.self) = open_clean _ _ (g.met.S.Store.shut_if_dirty c.query_all.new.self.store) on in
     let was = shown_open read_text _ _ _ _ (c.in_ok-rows.ensures.ok clean) in
-    let schema = c.requires.schema was in
+    let schema = c.requires.schema in
     let plain = subst (λ s. IsPlain (understood s read_text)) (sym schema) read_plain in
     let same : IsUnchanged (state g.S.Store c.args.connection.now) (state g.S.Store c.query_all.new.self) = shown_same read_text _ _ _ _ plain (c.in_ok-rows.ensures.ok clean) in
     on_err c.only_bytes.result (was, same.0.now_is)
 
 pub returns-in_err-rows-clause-crash : goal.returns-in_err-rows-clause-crash
-returns-in_err-rows-clause-crash g c on = leaves_as_before _ _ (commits_nothing read_text _ (state g.S.Store c.args.connection.now) (state g.S.Store c.query_all.new.self) (c.requires.schema on) read_plain c.query_all.ensures.survives)
+returns-in_err-rows-clause-crash g c = leaves_as_before _ _ (commits_nothing read_text _ (state g.S.Store c.args.connection.now) (state g.S.Store c.query_all.new.self) c.requires.schema read_plain c.query_all.ensures.survives)
 
 pub returns-clause-crash : goal.returns-clause-crash
-returns-clause-crash g c on = leaves_as_before _ _ (commits_nothing read_text _ (state g.S.Store c.args.connection.now) (state g.S.Store c.query_all.new.self) (c.requires.schema on) read_plain c.query_all.ensures.survives)
+returns-clause-crash g c = leaves_as_before _ _ (commits_nothing read_text _ (state g.S.Store c.args.connection.now) (state g.S.Store c.query_all.new.self) c.requires.schema read_plain c.query_all.ensures.survives)
+
+pub returns-clause-open : goal.returns-clause-open
+returns-clause-open g c clean =
+    let plain = subst (λ s. IsPlain (understood s read_text)) (sym c.requires.schema) read_plain in
+    let same : IsUnchanged (state g.S.Store c.args.connection.now) (state g.S.Store c.query_all.new.self) = shown_same read_text _ _ _ _ plain (c.in_ok-rows.ensures.ok clean) in
+    ok_of c.only_bytes.result same.0.is_open
+
+pub returns-in_err-rows-clause-closes : goal.returns-in_err-rows-clause-closes
+returns-in_err-rows-clause-closes g c = c.query_all.ensures.survives.closes
+
+pub returns-clause-closes : goal.returns-clause-closes
+returns-clause-closes g c = c.query_all.ensures.survives.closes
