@@ -1,5 +1,5 @@
 -- Rows of calls that change a volume by edits.
-use Rattle.std.proofs.Common.{◌≡◌, ◌∙◌, ap, sym, refl, subst, ℕ, zero, suc, ◌==◌, ◌+◌, ◌<◌, arith, get_or, Bool, true, false, List, [], ◌∷◌, length, Option, Some, None}
+use Rattle.std.proofs.Common.{◌≡◌, ◌∙◌, ap, sym, refl, subst, ℕ, ◌==◌, ◌+◌, ◌<◌, arith, get_or, set, false, List, [], ◌∷◌, length, Option, Some, None}
 use Rattle.std.specs.Prelude.{IfOk, Result, Ok as with_ok, Err, option_map, slice_get, slice_set}
 use Rattle.afp_base.specs.Choice.{first_holding}
 use Rattle.afp_base.specs.declared.bytes.OutOfMemory.{OutOfMemory}
@@ -8,12 +8,12 @@ use Rattle.afp_base.specs.declared.code.Code.TheVariants.{Ok, MiscErr, ParamErr}
 use Rattle.afp_replies.specs.Replies.{canonical_reply}
 use Rattle.afp_replies.specs.declared.reply.Reply.{Reply as AfpReply}
 use Rattle.afp_calls_grammar.specs.declared.grammar.call.Call.{Call}
-use Rattle.afp_serial.specs.Answer.{refusal_reply}
+use Rattle.afp_serial.specs.Answer.{refusal_reply, verdict_of_row}
 use Rattle.afp_serial.specs.World.{Effect, CallRow, plain, user_of, World, Session}
 use Rattle.afp_serial.specs.OnVolume.{done_on, opened_on}
-use Rattle.volume_keeper.specs.kept.Commits.{Commits}
+use Rattle.volume_keeper.specs.kept.Commits.{Commits, HasEdits}
 use Rattle.afp_serial.specs.VolumeRows.{edits_on, keeper_of_edits, with_edits}
-use Rattle.afp_serial.specs.Rows.{effect, refusal}
+use Rattle.afp_serial.specs.Rows.{committed, effect, ends_session, refusal}
 use Rattle.afp_serial.specs.declared.ask.Outcome.{Outcome}
 use Rattle.afp_serial.specs.declared.ask.Outcome.TheVariants as outcome
 use Rattle.afp_serial.specs.declared.ask.Told.{Told}
@@ -31,14 +31,14 @@ use Rattle.record_keeper.specs.declared.keeper.KeeperFault.{KeeperFault}
 use Rattle.record_keeper.specs.declared.keeper.KeeperFault.TheVariants as keeper
 use Rattle.session_table.specs.Sessions.{session_of}
 use Rattle.afp_core_state.specs.KeptWorld.{KeptWorld, kept_world, volumes_of}
-use Rattle.afp_core_state.proofs.KeeperLemmas.{becomes-kept}
+use Rattle.afp_core_state.proofs.KeeperLemmas.{becomes-kept, volume-of}
 use Rattle.afp_core_state.specs.OnVolumes.{BecomesKept, IsOpen, IsOpenAt, IsUser, with_kept}
-use Rattle.afp_core_state.specs.Running.{done, IsOutcomeOf, RunsRow}
+use Rattle.afp_core_state.specs.Running.{done, IsOutcomeOf, RunsRow, RunsVerdict}
 use Rattle.afp_core_state.proofs.RowLemmas.{has_effect, is_refused}
 use Rattle.afp_core_state.proofs.OnVolumeLemmas.{found-at, keeper-at, keeper-fails, kept-stays, refused-on, set-same, state-at, state-changes, told-effect}
-use Rattle.afp_core_state.specs.Planned.{MayCommit, MayCommitAt, RunsPlan, TellsCommitted}
+use Rattle.afp_core_state.specs.Planned.{MayCommit, MayCommitAt, RunsCommit, RunsPlan, TellsCommitted}
 use Rattle.afp_core_state.specs.RowKinds.{ChangesVolume, IsToldWhereDone}
-use Rattle.std.proofs.lemmas.Bool.{eqb-true}
+use Rattle.std.proofs.lemmas.List.{length-map}
 use Rattle.std.proofs.lemmas.Option.{same_Some}
 
 -- with its edits a volume is the one behind them
@@ -82,15 +82,73 @@ plans-commit k index user v now asked (with_ok plan) there plans = λ x at.
 plans-commit k index user v now asked (Err e) there plans = tt
 
 -- the volume at an index, and a plan of it
-volume-there : (kept : List KeptState) (index : ℕ) (d : KeptState) → index < length kept → slice_get (volumes_of kept) index ≡ Some (get_or kept index d).state
-volume-there [] index d within = absurd (omega (arith, within))
-volume-there (x ∷ kept) zero d within = refl
-volume-there (x ∷ kept) (suc index) d within = volume-there kept index d (omega (arith, within))
+pub index-within : (w : World) (kept : List KeptState) (index : ℕ) (k : KeptWorld) → kept_world (record w { volumes = volumes_of kept }) kept ≡ k → index < length k.world.volumes → index < length kept
+index-within w kept index k is within = omega (arith, within, ap (λ (x : KeptWorld). length x.world.volumes) is, length-map kept (λ (x : KeptState). x.state))
 
-pub may-commit : (w : World) (kept : List KeptState) (index : ℕ) (d : KeptState) (k : KeptWorld) (plan : PlanValue) → kept_world (record w { volumes = volumes_of kept }) kept ≡ k → index < length kept → d ≡ get_or kept index d
+pub may-commit : (w : World) (kept : List KeptState) (index : ℕ) (d : KeptState) (k : KeptWorld) (plan : PlanValue) → kept_world (record w { volumes = volumes_of kept }) kept ≡ k → index < length k.world.volumes → d ≡ get_or kept index d
     → MayCommitAt k index plan → MayCommit d.state plan
 may-commit w kept index d k plan is within same may =
-    may d.state (subst (λ (x : KeptWorld). slice_get x.world.volumes index ≡ Some d.state) is (volume-there kept index d within ∙ ap (λ (x : KeptState). Some x.state) (sym same)))
+    may d.state (subst (λ (x : KeptWorld). slice_get x.world.volumes index ≡ Some d.state) is (volume-of kept index d (index-within w kept index k is within) ∙ ap (λ (x : KeptState). Some x.state) (sym same)))
+
+pub commit-becomes : (w : World) (kept : List KeptState) (index : ℕ) (d one : KeptState) (k new : KeptWorld) (plan : PlanValue) (told answer : Result (Unit {0}) KeeperFault) → kept_world (record w { volumes = volumes_of kept }) kept ≡ k
+    → index < length k.world.volumes → d ≡ get_or kept index d → told ≡ answer → Commits d plan told one → new ≡ kept_world (record w { volumes = volumes_of (set kept index one) }) (set kept index one)
+    → BecomesKept k index (λ old one. Commits old plan answer one) new
+commit-becomes w kept index d one k new plan told answer is within same told_is does becomes =
+    becomes-kept w kept index d one (λ old one. Commits old plan answer one) k new is (index-within w kept index k is within)
+    (subst (λ (x : KeptState). Commits x plan answer one) same (subst (λ (r : Result (Unit {0}) KeeperFault). Commits d plan r one) told_is does)) becomes
+
+-- What the plan of a call comes to where it is committed, as the call's row has it: this effect; and a plan with edits is committed to the volume's
+-- keeper.
+pub record IsRowPlan (k : KeptWorld) (number : ℕ) (call : Call) (index : ℕ) (v : VolumeState) (plan : PlanValue) (block : List ℕ) : Type 0 where
+  pub of : Effect
+  pub does : (s : Session) → session_of k.world.sessions number ≡ Some s → effect k.world s call ≡ of
+  pub commits : HasEdits plan → (s : Session) → session_of k.world.sessions number ≡ Some s → committed k.world s call ≡ Some index
+  pub world : record k.world { volumes = slice_set k.world.volumes index (after_call v plan.moment (edits_of plan.edits)) } ≡ of.world
+  pub bytes : block ≡ canonical_reply of.reply
+
+-- a call that is planned of the volume at an index
+module _ (k : KeptWorld) (number : ℕ) (call : Call) (goes : ends_session call ≡ false) (index : ℕ) (v : VolumeState) (there : slice_get k.world.volumes index ≡ Some v)
+    (refuses : Option Code) (refuses_as : (s : Session) → session_of k.world.sessions number ≡ Some s → refusal k.world s call ≡ option_map plain refuses) where
+  module _ (plan : PlanValue) (block : List ℕ) (new : KeptWorld) (passes : refuses ≡ None) (p : IsRowPlan k number call index v plan block) where
+    row-done : BecomesKept k index (λ old one. Commits old plan (with_ok tt) one) new → RunsRow k number call (with_ok (done (Reply Ok block false))) new
+    row-done b = λ s at.
+        let was : b.old.state ≡ v = same_Some b.old.state v (sym b.was.state ∙ there) in
+        let after : VolumeState → VolumeState = λ x. after_call x plan.moment (edits_of plan.edits) in
+        has_effect k new s call (Reply Ok block false) p.of.world (refuses_as s at ∙ ap (option_map plain) passes)
+        (told-effect call (effect k.world s call) p.of block (p.does s at) goes p.bytes)
+        (b.now ∙ ap (with_kept k index) b.is ∙ state-changes k index b.old (after b.old.state) b.was
+        ∙ ap (λ (x : VolumeState). record k { world = record k.world { volumes = slice_set k.world.volumes index (after x) } }) was
+        ∙ ap (λ (w : World). record k { world = w }) p.world)
+        (ap (λ (e : Effect). e.world) (sym (p.does s at)))
+
+    row-fails : BecomesKept k index (λ old one. Commits old plan (Err keeper.Failed) one) new → RunsRow k number call (with_ok (refusal_reply MiscErr, outcome.Fault)) new
+    row-fails b = λ s at.
+        rw (refuses_as s at ∙ ap (option_map plain) passes)
+        (keeper-fails k new _ _ _ (refusal_reply MiscErr) index (p.commits b.is.0 s at) refl refl record { old = b.old; one = b.one; was = b.was; is = b.is.1; now = b.now })
+
+    row-ends : (answer : Result (Unit {0}) KeeperFault) (result : Result (Told × Outcome) OutOfMemory) → BecomesKept k index (λ old one. Commits old plan answer one) new → TellsCommitted answer block result
+        → RunsRow k number call result new
+    row-ends (with_ok committed) (with_ok r) b told = subst (λ (x : Told × Outcome). RunsRow k number call (with_ok x) new) (sym told) (row-done b)
+    row-ends (with_ok committed) (Err e) b told = absurd told
+    row-ends (Err keeper.Failed) (with_ok r) b told = subst (λ (x : Told × Outcome). RunsRow k number call (with_ok x) new) (sym told) (row-fails b)
+    row-ends (Err keeper.Failed) (Err e) b told = absurd told
+    row-ends (Err keeper.Memory) (with_ok r) b told = absurd told
+    row-ends (Err keeper.Memory) (Err e) b told = b.now ∙ ap (with_kept k index) b.is.1 ∙ kept-stays k index b.old b.was
+
+    pub committed-row : (result : Result (Told × Outcome) OutOfMemory) → RunsCommit k index plan block result new → RunsRow k number call result new
+    committed-row result runs = row-ends runs.answer result runs.becomes runs.tells
+
+  pub planned-row : (answer : Result PlanValue PlanFault) (block : List ℕ) (result : Result (Told × Outcome) OutOfMemory) (new : KeptWorld) → Refuses answer refuses
+      → IfOk answer (λ plan. refuses ≡ None → IsRowPlan k number call index v plan block) → RunsPlan k index answer block result new → RunsRow k number call result new
+  planned-row (with_ok plan) block result new passes plans runs = committed-row plan block new passes (plans passes) result runs
+  planned-row (Err (fault.Code code)) block (with_ok r) new refused plans runs = λ s at.
+      subst (λ (x : Told × Outcome). IsRowOf' s x) (sym runs.0) (is_refused k new s call code (refusal_reply code) (refuses_as s at ∙ ap (option_map plain) refused) refl runs.1)
+    where
+      IsRowOf' : Session → Told × Outcome → Type 0
+      IsRowOf' s r = RunsVerdict k s (verdict_of_row call (refusal k.world s call)) r new
+  planned-row (Err (fault.Code code)) block (Err e) new refused plans runs = absurd runs
+  planned-row (Err fault.Memory) block (with_ok r) new refused plans runs = absurd runs
+  planned-row (Err fault.Memory) block (Err e) new refused plans runs = runs
 
 -- a call that changes a volume
 module _ (k : KeptWorld) (number : ℕ) (call : Call) (volume : ℕ) (asked : VolumeCall) (reply : ℕ → VolumeState → AfpReply) (changes : ChangesVolume call volume asked reply) where
@@ -105,55 +163,32 @@ module _ (k : KeptWorld) (number : ℕ) (call : Call) (volume : ℕ) (asked : Vo
       ∙ refused-on k.world s volume v (λ x. volume_refusal x (user_of s) (opened_on k.world volume) asked) (stands.opened s at) (found-at k number volume index v stands there)
       ∙ ap (λ (u : ℕ). option_map plain (volume_refusal v u (opened_on k.world volume) asked)) (sym (calls s at))
 
-  volume-refused : (user index : ℕ) (v : VolumeState) (code : Code) (told : Told) → IsUser k number user → IsOpenAt k number volume index → slice_get k.world.volumes index ≡ Some v
-      → volume_refusal v user (opened_on k.world volume) asked ≡ Some code → told ≡ refusal_reply code → RunsRow k number call (with_ok (done told)) k
-  volume-refused user index v code told calls stands there refused is = λ s at.
-      is_refused k k s call code told (volume-refuses user index v calls stands there s at ∙ ap (option_map plain) refused) is refl
-
-  module _ (user index : ℕ) (v : VolumeState) (plan : PlanValue) (calls : IsUser k number user) (stands : IsOpenAt k number volume index) (there : slice_get k.world.volumes index ≡ Some v)
-      (passes : volume_refusal v user (opened_on k.world volume) asked ≡ None) (plans : Plans v user k.world.latest asked plan) where
-    planned-done : (new : KeptWorld) (block : List ℕ) (told : Told) → block ≡ canonical_reply (reply user v)
-        → BecomesKept k index (λ old one. Commits old plan (with_ok tt) one) new → told ≡ Reply Ok block false → RunsRow k number call (with_ok (done told)) new
-    planned-done new block told bytes b is = λ s at.
-        let next = with_edits k.world volume v (call_edits v user k.world.latest asked) in
-        let of : Effect = record { world = next; reply = reply user v } in
-        let does : effect k.world s call ≡ of =
-        ap (λ (r : CallRow). r.effect k.world s) changes.row_is
-        ∙ ap (λ (o : Option VolumeState). done_on o k.world (λ x. record { world = with_edits k.world volume x (call_edits x (user_of s) k.world.latest asked); reply = reply (user_of s) x })) (found-at k number volume index v stands there)
-        ∙ ap (λ (u : ℕ). record { world = with_edits k.world volume v (call_edits v u k.world.latest asked); reply = reply u v }) (sym (calls s at)) in
-        has_effect k new s call told next (volume-refuses user index v calls stands there s at ∙ ap (option_map plain) passes)
-        (is ∙ told-effect call (effect k.world s call) of block does changes.goes_on bytes)
-        (committed-world k index user v asked plan there plans new volume stands.id b)
-        (ap (λ (e : Effect). e.world) (sym does))
-
-    planned-fails : (new : KeptWorld) (told : Told) → BecomesKept k index (λ old one. Commits old plan (Err keeper.Failed) one) new → told ≡ refusal_reply MiscErr
-        → RunsRow k number call (with_ok (told, outcome.Fault)) new
-    planned-fails new told b is = λ s at.
-        rw (volume-refuses user index v calls stands there s at ∙ ap (option_map plain) passes)
-        (commit-fails k index user v asked plan there plans new _ told _ volume _ stands.id
-        (ap (λ (r : CallRow). r.committed k.world s) changes.row_is
-        ∙ ap (λ (o : Option VolumeState). keeper_of_edits volume (edits_on o (λ x. call_edits x (user_of s) k.world.latest asked))) (found-at k number volume index v stands there)
-        ∙ ap (λ (u : ℕ). keeper_of_edits volume (call_edits v u k.world.latest asked)) (sym (calls s at))) is refl b)
-
-    commit-runs : (new : KeptWorld) (answer : Result (Unit {0}) KeeperFault) (block : List ℕ) (result : Result (Told × Outcome) OutOfMemory) → block ≡ canonical_reply (reply user v)
-        → BecomesKept k index (λ old one. Commits old plan answer one) new → TellsCommitted answer block result → RunsRow k number call result new
-    commit-runs new (with_ok committed) block (with_ok r) bytes b told =
-        subst (λ (x : Told × Outcome). RunsRow k number call (with_ok x) new) (sym told) (planned-done new block (Reply Ok block false) bytes b refl)
-    commit-runs new (with_ok committed) block (Err e) bytes b told = absurd told
-    commit-runs new (Err keeper.Failed) block (with_ok r) bytes b told =
-        subst (λ (x : Told × Outcome). RunsRow k number call (with_ok x) new) (sym told) (planned-fails new (refusal_reply MiscErr) b refl)
-    commit-runs new (Err keeper.Failed) block (Err e) bytes b told = absurd told
-    commit-runs new (Err keeper.Memory) block (with_ok r) bytes b told = absurd told
-    commit-runs new (Err keeper.Memory) block (Err e) bytes b told = commit-memory k index user v asked plan there plans new b
+  row-plan : (user index : ℕ) (v : VolumeState) (plan : PlanValue) (block : List ℕ) → IsUser k number user → IsOpenAt k number volume index → slice_get k.world.volumes index ≡ Some v
+      → Plans v user k.world.latest asked plan → block ≡ canonical_reply (reply user v) → IsRowPlan k number call index v plan block
+  row-plan user index v plan block calls stands there plans bytes =
+      let edits : ℕ → VolumeState → List Edit = λ u x. call_edits x u k.world.latest asked in
+      record {
+        of = record { world = with_edits k.world volume v (edits user v); reply = reply user v };
+        does = λ s at.
+            ap (λ (r : CallRow). r.effect k.world s) changes.row_is
+            ∙ ap (λ (o : Option VolumeState). done_on o k.world (λ x. record { world = with_edits k.world volume x (edits (user_of s) x); reply = reply (user_of s) x })) (found-at k number volume index v stands there)
+            ∙ ap (λ (u : ℕ). record { world = with_edits k.world volume v (edits u v); reply = reply u v }) (sym (calls s at));
+        commits = λ some s at.
+            ap (λ (r : CallRow). r.committed k.world s) changes.row_is
+            ∙ ap (λ (o : Option VolumeState). keeper_of_edits volume (edits_on o (edits (user_of s)))) (found-at k number volume index v stands there)
+            ∙ ap (λ (u : ℕ). keeper_of_edits volume (edits u v)) (sym (calls s at))
+            ∙ edits-keeper volume index plan.edits (edits user v) stands.id plans.edits some;
+        world = (λ i. record k.world { volumes = slice_set k.world.volumes index (after_call v (plans.moment i) (plans.edits i)) }) ∙ edits-become k.world volume index v (edits user v) stands.id there;
+        bytes = bytes;
+      }
 
   pub plan-runs : (new : KeptWorld) (user index : ℕ) (v : VolumeState) (now : ℕ) (answer : Result PlanValue PlanFault) (block : List ℕ) (result : Result (Told × Outcome) OutOfMemory) → IsUser k number user → IsOpenAt k number volume index
       → slice_get k.world.volumes index ≡ Some v → now ≡ k.world.latest → Refuses answer (volume_refusal v user (opened_on k.world volume) asked) → IfOk answer (Plans v user now asked)
       → IsToldWhereDone (volume_refusal v user (opened_on k.world volume) asked) block (reply user v) → RunsPlan k index answer block result new → RunsRow k number call result new
-  plan-runs new user index v now (with_ok plan) block result calls stands there at_now passes plans bytes runs =
-      commit-runs user index v plan calls stands there passes (subst (λ (n : ℕ). Plans v user n asked plan) at_now plans) new runs.answer block result (bytes passes) runs.becomes runs.tells
-  plan-runs new user index v now (Err (fault.Code code)) block (with_ok r) calls stands there at_now refused plans bytes runs =
-      subst (λ (x : KeptWorld). RunsRow k number call (with_ok r) x) (sym runs.1)
-      (subst (λ (x : Told × Outcome). RunsRow k number call (with_ok x) k) (sym runs.0) (volume-refused user index v code (refusal_reply code) calls stands there refused refl))
-  plan-runs new user index v now (Err (fault.Code code)) block (Err e) calls stands there at_now refused plans bytes runs = absurd runs
-  plan-runs new user index v now (Err fault.Memory) block (with_ok r) calls stands there at_now refused plans bytes runs = absurd runs
-  plan-runs new user index v now (Err fault.Memory) block (Err e) calls stands there at_now refused plans bytes runs = runs
+  plan-runs new user index v now answer block result calls stands there at_now passes plans bytes runs =
+      planned-row k number call changes.goes_on index v there (volume_refusal v user (opened_on k.world volume) asked) (volume-refuses user index v calls stands there) answer block result new passes (by answer plans) runs
+    where
+      by : (answer : Result PlanValue PlanFault) → IfOk answer (Plans v user now asked)
+          → IfOk answer (λ plan. volume_refusal v user (opened_on k.world volume) asked ≡ None → IsRowPlan k number call index v plan block)
+      by (with_ok plan) plans = λ passes. row-plan user index v plan block calls stands there (subst (λ (n : ℕ). Plans v user n asked plan) at_now plans) (bytes passes)
+      by (Err e) plans = tt

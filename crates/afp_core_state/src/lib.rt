@@ -12,6 +12,6 @@ mod state;
 
 pub use forks::OpenForks;
 pub use on_fork::OwnFork;
-pub use planned::{commit_at, latest, run_plan, told_committed, whole_at};
+pub use planned::{commit_plan, latest, run_plan, whole_at};
 pub use replies::{done, parms_room, refused, told_changed, told_of, told_settled};
 pub use state::State;

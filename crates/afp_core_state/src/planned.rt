@@ -1,15 +1,12 @@
 //! Calls that were planned of a volume.
 ghost use Rattle.std.specs.Prelude.{◌≡◌, ◌<◌, Some, length, slice_get, IfOk};
-ghost use Rattle.afp_core_state.specs.Planned.{MayCommitAt, RunsPlan, TellsCommitted};
-ghost use Rattle.afp_core_state.specs.OnVolumes.{BecomesKept};
-ghost use Rattle.volume_keeper.specs.kept.Commits.{Commits};
+ghost use Rattle.afp_core_state.specs.Planned.{MayCommitAt, RunsCommit, RunsPlan};
 
 use crate::replies::{done, refused};
 use crate::state::State;
 use afp_base::{Bytes, Code, Moment, OutOfMemory};
 use afp_serial::{Outcome, Told};
 use record_keeper::{Keeper, KeeperFault};
-use std::alloc::Global;
 use volume_edits::{Plan, WholeVolume};
 use volume_tree::PlanFault;
 
@@ -28,29 +25,20 @@ pub fn latest<K: Keeper>(state: &State<K>) -> Moment
     state.latest
 }
 
-/// Commits a plan to the keeper of the volume at an index, and carries it out. A plan of no edits commits nothing.
-pub fn commit_at<K: Keeper>(
+/// Commits a plan to the keeper of the volume at an index, carries it out, and tells of that: `block`, where it went well. A plan of no edits commits
+/// nothing.
+pub fn commit_plan<K: Keeper>(
     state: &mut State<K>,
     index: usize,
     plan: Plan,
-) -> Result<(), KeeperFault>
-    requires within { index < length state.old.world.volumes }
-    requires may { MayCommitAt state.old index plan }
-    ensures { BecomesKept state.old index (λ old one. Commits old plan result one) state.new }
-{
-    let alloc = state.alloc;
-    state.kept[index].commit(alloc, plan)
-}
-
-/// What is told of a commit: `block`, where it went well.
-pub fn told_committed(
-    alloc: Global,
-    answer: Result<(), KeeperFault>,
     block: Bytes,
 ) -> Result<(Told, Outcome), OutOfMemory>
-    ensures { TellsCommitted answer block result }
+    requires within { index < length state.old.world.volumes }
+    requires may { MayCommitAt state.old index plan }
+    ensures { RunsCommit state.old index plan block result state.new }
 {
-    match answer {
+    let alloc = state.alloc;
+    match state.kept[index].commit(alloc, plan) {
         Ok(()) => Ok((done(block), Outcome::Done)),
         Err(KeeperFault::Failed) => Ok((refused(alloc, Code::MiscErr), Outcome::Fault)),
         Err(KeeperFault::Memory) => Err(OutOfMemory),
@@ -69,10 +57,7 @@ pub fn run_plan<K: Keeper>(
     ensures { RunsPlan state.old index answer block result state.new }
 {
     match answer {
-        Ok(plan) => {
-            let committed = commit_at(state, index, plan);
-            told_committed(state.alloc, committed, block)
-        }
+        Ok(plan) => commit_plan(state, index, plan, block),
         Err(PlanFault::Code(code)) => Ok((refused(state.alloc, code), Outcome::Done)),
         Err(PlanFault::Memory) => Err(OutOfMemory),
     }

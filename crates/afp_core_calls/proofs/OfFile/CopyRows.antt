@@ -1,43 +1,38 @@
 -- The row of FPCopyFile.
 use Rattle.std.proofs.Common.{◌≡◌, ◌∙◌, ap, sym, refl, subst, ℕ, Bool, true, false, not, List, [], ◌∷◌, Option, Some, None}
-use Rattle.std.specs.Prelude.{Result, Ok as with_ok, Err, option_map, slice_get}
+use Rattle.std.specs.Prelude.{Result, Ok as with_ok, Err, option_map, slice_get, slice_set}
 use Rattle.afp_base.specs.Choice.{first_holding}
 use Rattle.afp_base.proofs.Facts.{some-none}
 use Rattle.afp_base.specs.declared.bytes.OutOfMemory.{OutOfMemory}
 use Rattle.afp_base.specs.declared.code.Code.{Code}
-use Rattle.afp_base.specs.declared.code.Code.TheVariants.{Ok, MiscErr, ParamErr}
-use Rattle.afp_replies.specs.declared.reply.Reply.TheVariants.{Empty}
+use Rattle.afp_base.specs.declared.code.Code.TheVariants.{ParamErr}
 use Rattle.afp_calls_grammar.specs.declared.grammar.call.Call.{Call}
 use Rattle.afp_serial.specs.Answer.{refusal_reply}
 use Rattle.afp_serial.specs.CopyFile.{CopyAsked, copies, copy_call, copy_edits, copy_refused, source_of, source_on}
-use Rattle.afp_serial.specs.World.{Effect, CallRow, has_opened, plain, refused_before, user_of, volume_at, with_empty_reply, World, Session}
+use Rattle.afp_serial.specs.World.{CallRow, has_opened, plain, refused_before, user_of, volume_at, with_empty_reply, World, Session}
 use Rattle.afp_serial.specs.OnVolume.{done_on, on_volume, refused_on}
 use Rattle.afp_serial.specs.VolumeRows.{edits_on, keeper_of_edits, with_edits}
 use Rattle.afp_serial.specs.Rows.{effect, ends_session, refusal, row}
 use Rattle.afp_serial.specs.declared.ask.Outcome.{Outcome}
-use Rattle.afp_serial.specs.declared.ask.Outcome.TheVariants as outcome
 use Rattle.afp_serial.specs.declared.ask.Told.{Told}
-use Rattle.afp_serial.specs.declared.ask.Told.TheVariants.{Reply}
 use Rattle.volume_edits.specs.edits.Planned.{PlanValue}
 use Rattle.volume_spec.specs.CopyFile.{Source, copied_refusal, copy_file_refusal}
+use Rattle.volume_spec.specs.Edit.{after_call}
 use Rattle.volume_spec.specs.OpenFork.{open_fork_file}
 use Rattle.volume_spec.specs.VolumeCalls.{call_edits}
 use Rattle.volume_spec.specs.VolumeState.{Row as File, VolumeState}
 use Rattle.volume_tree.specs.declared.resolve.PlanFault.{PlanFault}
 use Rattle.volume_tree.specs.declared.resolve.PlanFault.TheVariants as fault
-use Rattle.record_keeper.specs.declared.keeper.KeeperFault.{KeeperFault}
-use Rattle.record_keeper.specs.declared.keeper.KeeperFault.TheVariants as keeper
 use Rattle.session_table.specs.Sessions.{session_of}
 use Rattle.afp_core_state.specs.KeptWorld.{KeptWorld}
-use Rattle.afp_core_state.specs.OnVolumes.{BecomesKept, IsOpen, IsOpenAt, IsUser}
-use Rattle.volume_keeper.specs.kept.Commits.{Commits}
-use Rattle.afp_core_state.specs.Planned.{TellsCommitted}
+use Rattle.afp_core_state.specs.OnVolumes.{IsOpen, IsOpenAt, IsUser}
+use Rattle.afp_core_state.specs.Planned.{RunsCommit}
 use Rattle.afp_core_state.specs.Replies.{Tells}
 use Rattle.afp_core_state.specs.Running.{done, RunsRow}
 use Rattle.afp_core_state.proofs.KeeperLemmas.{volume_at-index}
-use Rattle.afp_core_state.proofs.RowLemmas.{has_effect, is_refused}
-use Rattle.afp_core_state.proofs.OnVolumeLemmas.{found-at, told-effect}
-use Rattle.afp_core_state.proofs.PlannedRows.{commit-fails, commit-memory, committed-world}
+use Rattle.afp_core_state.proofs.RowLemmas.{is_refused}
+use Rattle.afp_core_state.proofs.OnVolumeLemmas.{found-at}
+use Rattle.afp_core_state.proofs.PlannedRows.{IsRowPlan, committed-row, edits-become, edits-keeper}
 use Rattle.afp_core_calls.specs.file.lemma.Copying.{IsCopyPlanned, PlansCopy, RefusesCopy, copies_refused, source_is}
 
 -- the refusals, where a volume is not open
@@ -112,36 +107,27 @@ module _ (k : KeptWorld) (number : ℕ) (call : Call) (asked : CopyAsked) (row_i
       passes-none : (s : Session) → session_of k.world.sessions number ≡ Some s → refusal k.world s call ≡ None
       passes-none s at = refuses p.from p.from_there s at ∙ copy-passes k.world user asked p.from p.file p.to p.may p.found to-at p.passes
 
-      copy-done : (new : KeptWorld) (block : List ℕ) (told : Told) → block ≡ [] → BecomesKept k target (λ old one. Commits old plan (with_ok tt) one) new → told ≡ Reply Ok block false → RunsRow k number call (with_ok (done told)) new
-      copy-done new block told none b is = λ s at.
+      copy-plan : IsRowPlan k number call target p.to plan []
+      copy-plan =
           let source = source_is k.world user asked p.from p.file in
-          let next = with_edits k.world asked.target p.to (call_edits p.to user k.world.latest (copy_call asked source)) in
-          let of : Effect = record { world = next; reply = Empty } in
-          let does : effect k.world s call ≡ of =
-          ap (λ (r : CallRow). r.effect k.world s) row_is
-          ∙ ap (λ (o : Option VolumeState). done_on o k.world (λ v. with_empty_reply (with_edits k.world asked.target v (copy_edits k.world (user_of s) asked (source_of k.world (user_of s) asked) v)))) to-at
-          ∙ ap (λ (u : ℕ). with_empty_reply (with_edits k.world asked.target p.to (copy_edits k.world u asked (source_of k.world u asked) p.to))) (sym (calls s at))
-          ∙ ap (λ (o : Option Source). with_empty_reply (with_edits k.world asked.target p.to (copy_edits k.world user asked o p.to))) source-at in
-          has_effect k new s call told next (passes-none s at) (is ∙ told-effect call (effect k.world s call) of block does goes none)
-          (committed-world k target user p.to (copy_call asked source) plan p.to_there p.plans new asked.target p.id b)
-          (ap (λ (e : Effect). e.world) (sym does))
+          let edits = call_edits p.to user k.world.latest (copy_call asked source) in
+          record {
+            of = with_empty_reply (with_edits k.world asked.target p.to edits);
+            does = λ s at.
+                ap (λ (r : CallRow). r.effect k.world s) row_is
+                ∙ ap (λ (o : Option VolumeState). done_on o k.world (λ v. with_empty_reply (with_edits k.world asked.target v (copy_edits k.world (user_of s) asked (source_of k.world (user_of s) asked) v)))) to-at
+                ∙ ap (λ (u : ℕ). with_empty_reply (with_edits k.world asked.target p.to (copy_edits k.world u asked (source_of k.world u asked) p.to))) (sym (calls s at))
+                ∙ ap (λ (o : Option Source). with_empty_reply (with_edits k.world asked.target p.to (copy_edits k.world user asked o p.to))) source-at;
+            commits = λ some s at.
+                ap (λ (r : CallRow). r.committed k.world s) row_is
+                ∙ ap (λ (o : Option VolumeState). keeper_of_edits asked.target (edits_on o (copy_edits k.world (user_of s) asked (source_of k.world (user_of s) asked)))) to-at
+                ∙ ap (λ (u : ℕ). keeper_of_edits asked.target (copy_edits k.world u asked (source_of k.world u asked) p.to)) (sym (calls s at))
+                ∙ ap (λ (o : Option Source). keeper_of_edits asked.target (copy_edits k.world user asked o p.to)) source-at
+                ∙ edits-keeper asked.target target plan.edits edits p.id p.plans.edits some;
+            world = (λ i. record k.world { volumes = slice_set k.world.volumes target (after_call p.to (p.plans.moment i) (p.plans.edits i)) }) ∙ edits-become k.world asked.target target p.to edits p.id p.to_there;
+            bytes = refl;
+          }
 
-      copy-fails : (new : KeptWorld) (told : Told) → BecomesKept k target (λ old one. Commits old plan (Err keeper.Failed) one) new → told ≡ refusal_reply MiscErr → RunsRow k number call (with_ok (told, outcome.Fault)) new
-      copy-fails new told b is = λ s at.
-          rw (passes-none s at)
-          (commit-fails k target user p.to (copy_call asked (source_is k.world user asked p.from p.file)) plan p.to_there p.plans new _ told _ asked.target _ p.id
-          (ap (λ (r : CallRow). r.committed k.world s) row_is
-          ∙ ap (λ (o : Option VolumeState). keeper_of_edits asked.target (edits_on o (copy_edits k.world (user_of s) asked (source_of k.world (user_of s) asked)))) to-at
-          ∙ ap (λ (u : ℕ). keeper_of_edits asked.target (copy_edits k.world u asked (source_of k.world u asked) p.to)) (sym (calls s at))
-          ∙ ap (λ (o : Option Source). keeper_of_edits asked.target (copy_edits k.world user asked o p.to)) source-at) is refl b)
-
-      pub copy-runs : (new : KeptWorld) (answer : Result (Unit {0}) KeeperFault) (block : List ℕ) (result : Result (Told × Outcome) OutOfMemory) → block ≡ [] → BecomesKept k target (λ old one. Commits old plan answer one) new
-          → TellsCommitted answer block result → RunsRow k number call result new
-      copy-runs new (with_ok committed) block (with_ok r) none b told =
-          subst (λ (x : Told × Outcome). RunsRow k number call (with_ok x) new) (sym told) (copy-done new block (Reply Ok block false) none b refl)
-      copy-runs new (with_ok committed) block (Err e) none b told = absurd told
-      copy-runs new (Err keeper.Failed) block (with_ok r) none b told =
-          subst (λ (x : Told × Outcome). RunsRow k number call (with_ok x) new) (sym told) (copy-fails new (refusal_reply MiscErr) b refl)
-      copy-runs new (Err keeper.Failed) block (Err e) none b told = absurd told
-      copy-runs new (Err keeper.Memory) block (with_ok r) none b told = absurd told
-      copy-runs new (Err keeper.Memory) block (Err e) none b told = commit-memory k target user p.to (copy_call asked (source_is k.world user asked p.from p.file)) plan p.to_there p.plans new b
+      pub copy-runs : (new : KeptWorld) (block : List ℕ) (result : Result (Told × Outcome) OutOfMemory) → block ≡ [] → RunsCommit k target plan block result new → RunsRow k number call result new
+      copy-runs new block result none runs =
+          committed-row k number call goes target p.to p.to_there None passes-none plan [] new refl copy-plan result (subst (λ (l : List ℕ). RunsCommit k target plan l result new) none runs)

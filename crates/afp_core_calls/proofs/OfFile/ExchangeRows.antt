@@ -38,7 +38,7 @@ use Rattle.afp_core_state.specs.Running.{done, RunsRow}
 use Rattle.afp_core_state.proofs.RowLemmas.{has_effect, is_refused}
 use Rattle.afp_core_state.proofs.OnVolumeLemmas.{found-at, refused-on, told-effect}
 use Rattle.afp_core_state.proofs.PlannedRows.{commit-fails, commit-memory, committed-world}
-use Rattle.afp_core_calls.specs.file.lemma.Exchanging.{RunsExchange, exchanged_behind, with_exchanged}
+use Rattle.afp_core_calls.specs.file.lemma.Exchanging.{RunsExchange, exchanged_behind, exchanged_where, with_exchanged}
 
 module _ (k : KeptWorld) (number : ℕ) (call : Call) (volume dir second_dir : ℕ) (path second_path : PathValue) (row_is : row call ≡ exchange_files_row volume dir second_dir path second_path) (goes : ends_session call ≡ false) where
   pub exchange-unopened : (told : Told) → IsOpen k number volume None → told ≡ refusal_reply ParamErr → RunsRow k number call (with_ok (done told)) k
@@ -94,16 +94,17 @@ module _ (k : KeptWorld) (number : ℕ) (call : Call) (volume dir second_dir : �
         ∙ ap (λ (u : ℕ). keeper_of_edits volume (call_edits v u k.world.latest (ExchangeFiles dir path second_dir second_path))) (sym (calls s at))) is refl b)
 
     exchange-ends : (between new : KeptWorld) (answer : Result (Unit {0}) KeeperFault) (result : Result (Told × Outcome) OutOfMemory) → BecomesKept k index (λ old one. Commits old plan answer one) between
-        → new ≡ exchanged_behind answer volume pair between → TellsCommitted answer [] result → RunsRow k number call result new
-    exchange-ends between new (with_ok committed) (with_ok r) b behind told =
-        subst (λ (x : Told × Outcome). RunsRow k number call (with_ok x) new) (sym told) (exchange-done between new (Reply Ok [] false) b behind refl)
-    exchange-ends between new (with_ok committed) (Err e) b behind told = absurd told
-    exchange-ends between new (Err keeper.Failed) (with_ok r) b behind told =
-        subst (λ (x : KeptWorld). RunsRow k number call (with_ok r) x) (sym behind)
+        → TellsCommitted answer [] result → new ≡ exchanged_behind result volume pair between → RunsRow k number call result new
+    exchange-ends between new (with_ok committed) (with_ok r) b told behind =
+        subst (λ (x : Told × Outcome). RunsRow k number call (with_ok x) new) (sym told)
+        (exchange-done between new (Reply Ok [] false) b (behind ∙ ap (λ (x : Told × Outcome). exchanged_where x.1 volume pair between) told) refl)
+    exchange-ends between new (with_ok committed) (Err e) b told behind = absurd told
+    exchange-ends between new (Err keeper.Failed) (with_ok r) b told behind =
+        subst (λ (x : KeptWorld). RunsRow k number call (with_ok r) x) (sym (behind ∙ ap (λ (x : Told × Outcome). exchanged_where x.1 volume pair between) told))
         (subst (λ (x : Told × Outcome). RunsRow k number call (with_ok x) between) (sym told) (exchange-fails between (refusal_reply MiscErr) b refl))
-    exchange-ends between new (Err keeper.Failed) (Err e) b behind told = absurd told
-    exchange-ends between new (Err keeper.Memory) (with_ok r) b behind told = absurd told
-    exchange-ends between new (Err keeper.Memory) (Err e) b behind told = behind ∙ commit-memory k index user v (ExchangeFiles dir path second_dir second_path) plan there plans between b
+    exchange-ends between new (Err keeper.Failed) (Err e) b told behind = absurd told
+    exchange-ends between new (Err keeper.Memory) (with_ok r) b told behind = absurd told
+    exchange-ends between new (Err keeper.Memory) (Err e) b told behind = behind ∙ commit-memory k index user v (ExchangeFiles dir path second_dir second_path) plan there plans between b
 
     pub exchange-runs : (new : KeptWorld) (result : Result (Told × Outcome) OutOfMemory) → RunsExchange k index volume pair plan result new → RunsRow k number call result new
-    exchange-runs new result runs = exchange-ends runs.between new runs.answer result runs.becomes runs.behind runs.tells
+    exchange-runs new result runs = exchange-ends runs.between new runs.runs.answer result runs.runs.becomes runs.runs.tells runs.behind

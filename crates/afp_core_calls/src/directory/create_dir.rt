@@ -10,7 +10,7 @@ ghost use Rattle.afp_core_calls.specs.directory.DirectoryCalls.{CreatesDir};
 ghost use Rattle.afp_core_state.specs.Running.{RunsRow};
 
 use crate::node_reply::node_block;
-use crate::tree_changes::change;
+use crate::tree_changes::change_tree;
 use afp_base::{Bytes, NodeId, OutOfMemory, SessionNumber, VolumeId};
 use afp_calls::Call;
 use afp_core_state::State;
@@ -29,7 +29,7 @@ pub fn create_dir<K: Keeper>(
     ensures { RunsRow state.old session.0 call.now result state.new }
 {
     let block = next_id_block(state, volume)?;
-    change(state, session, volume, None, call, block)
+    change_tree(state, session, volume, None, call, block)
 }
 
 /// The bytes of the next id of a volume, where its ids have not ended.

@@ -7,7 +7,7 @@ ghost use Rattle.volume_spec.specs.VolumeState.{guest, only_group};
 ghost use Rattle.afp_core_calls.specs.directory.DirectoryCalls.{SetsDir};
 ghost use Rattle.afp_core_state.specs.Running.{RunsRow};
 
-use crate::tree_changes::change;
+use crate::tree_changes::change_tree;
 use afp_base::{Bytes, Code, OutOfMemory, SessionNumber, VolumeId};
 use afp_calls::Call;
 use afp_core_state::State;
@@ -31,7 +31,7 @@ pub fn set_dir_parms<K: Keeper>(
 {
     let behind = refused_behind(state.house.users(), bits, tail);
     let nothing = Bytes::new(state.alloc);
-    change(state, session, volume, behind, call, nothing)
+    change_tree(state, session, volume, behind, call, nothing)
 }
 
 /// Why the call is refused behind what the volume refuses.

@@ -6,7 +6,7 @@ ghost use Rattle.afp_core_state.specs.Running.{RunsRow};
 
 use crate::file::rights::lacks_read;
 use afp_base::{Bytes, Code, NodeId, OutOfMemory, SessionNumber, VolumeId};
-use afp_core_state::{State, commit_at, latest, refused, told_committed, told_of, whole_at};
+use afp_core_state::{State, commit_plan, latest, refused, told_of, whole_at};
 use afp_names::Path;
 use afp_serial::{Outcome, Told};
 use record_keeper::Keeper;
@@ -48,8 +48,8 @@ pub fn copy_file<K: Keeper>(
     );
     match planned {
         Ok((target, plan)) => {
-            let committed = commit_at(state, target, plan);
-            told_committed(state.alloc, committed, Bytes::new(state.alloc))
+            let nothing = Bytes::new(state.alloc);
+            commit_plan(state, target, plan, nothing)
         }
         Err(fault) => told_of(state.alloc, Err(fault), Bytes::new(state.alloc)),
     }

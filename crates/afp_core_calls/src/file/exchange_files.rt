@@ -7,10 +7,10 @@ ghost use Rattle.afp_core_state.specs.Planned.{MayCommitAt};
 ghost use Rattle.afp_core_state.specs.Running.{RunsRow};
 
 use afp_base::{Bytes, Code, NodeId, OutOfMemory, SessionNumber, VolumeId};
-use afp_core_state::{State, commit_at, done, latest, refused, told_of, whole_at};
+use afp_core_state::{State, commit_plan, latest, refused, told_of, whole_at};
 use afp_names::Path;
 use afp_serial::{Outcome, Told};
-use record_keeper::{Keeper, KeeperFault};
+use record_keeper::Keeper;
 use std::alloc::Global;
 use volume_edits::{Plan, WholeVolume, plan_exchange_files};
 use volume_tree::PlanFault;
@@ -96,13 +96,13 @@ fn exchange<K: Keeper>(
     requires may { MayCommitAt state.old index plan }
     ensures { RunsExchange state.old index volume.0 (record { first = a.0; second = b.0 }) plan result state.new }
 {
-    let alloc = state.alloc;
-    match commit_at(state, index, plan) {
-        Ok(()) => {
+    let nothing = Bytes::new(state.alloc);
+    let (told, outcome) = commit_plan(state, index, plan, nothing)?;
+    match outcome {
+        Outcome::Done => {
             exchange_forks(state, volume, a, b);
-            Ok((done(Bytes::new(alloc)), Outcome::Done))
+            Ok((told, Outcome::Done))
         }
-        Err(KeeperFault::Failed) => Ok((refused(alloc, Code::MiscErr), Outcome::Fault)),
-        Err(KeeperFault::Memory) => Err(OutOfMemory),
+        Outcome::Fault => Ok((told, Outcome::Fault)),
     }
 }

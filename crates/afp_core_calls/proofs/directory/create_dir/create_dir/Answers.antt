@@ -13,6 +13,6 @@ pub returns : goal.returns
 returns g c =
     let dir = c.requires.dir in
     let path = c.requires.path in
-    c.change.ensures (CreateDir dir.0 path) (λ v. Node (node_id (create_dir_id v))) (λ w. None)
+    c.change_tree.ensures (CreateDir dir.0 path) (λ v. Node (node_id (create_dir_id v))) (λ w. None)
     (subst (λ (x : Call). ChangesTree x (λ w. None) c.args.volume.0 (CreateDir dir.0 path) (λ v. Node (node_id (create_dir_id v)))) (sym c.requires.is) (create_dir-changes c.args.volume dir path)) refl
     (λ v user there passes. c.in_ok-block.ensures v there (create_dir-ids v user dir.0 path passes) ∙ ap (λ (n : ℕ). canonical_reply (Node (node_id n))) (sym (create_dir-id v)))

@@ -13,7 +13,7 @@ returns g c =
     let is = c.requires in
     let bits = c.args.bits in
     let tail = c.args.tail.now in
-    c.change.ensures (SetDirParms is.dir.0 bits is.path tail) (λ v. Empty) (λ w. set_dir_parms_behind (user_ids w.house.users) bits tail)
+    c.change_tree.ensures (SetDirParms is.dir.0 bits is.path tail) (λ v. Empty) (λ w. set_dir_parms_behind (user_ids w.house.users) bits tail)
     (set_dir_parms-changes c.args.call.now c.args.volume is.dir bits is.path tail is.is)
     (behind-by c.users.result.now c.args.state.now.world.house.users bits tail c.refused_behind-behind.result (c.users.ensures.value ∙ ap (λ (k : KeptWorld). k.world.house.users) c.state.view_is)
     c.refused_behind-behind.ensures)

@@ -37,7 +37,7 @@ returns-in-Ok g c =
     let opened : (s : Session) → session_of x.state.now.world.sessions x.session.0 ≡ Some s → has_opened s asked.target ≡ true =
     (λ s at. sym (c.has_volume.ensures s (ap (λ (k : KeptWorld). session_of k.world.sessions x.session.0) c.state.view_is ∙ at)) ∙ c.if-not-has_volume.false) in
     copy-runs x.state.now x.session.0 _ asked (copy_file-row x.volume x.dir x.target_volume x.target_dir x.path.now x.target_path.now x.new_path.now) refl c.user-user.result c.in-Some.index c.user-user.ensures c.in-Some.ensures opened c.in-Ok.target c.in-Ok.plan
-    c.in-Ok.ensures _ c.commit_at-committed.result _ _ c.new.ensures c.commit_at-committed.ensures c.told_committed.ensures
+    c.in-Ok.ensures _ _ _ c.new-nothing.ensures c.commit_plan.ensures
 
 pub returns-in-Err : goal.returns-in-Err
 returns-in-Err g c =
