@@ -1,7 +1,6 @@
 -- A whole turn, from its steps.
 use Rattle.std.proofs.Common.{◌≡◌, ℕ, ◌+◌, ◌<◌, true, Option, Some, List, [], ◌∷◌, ◌++◌, length, refl, sym, ap, ◌∙◌, subst, arith, length-append}
 use Rattle.std.specs.Prelude.{sum}
-use Rattle.atomic_table.specs.Table.{rest}
 use Rattle.afp_base.specs.Counts.{Rises}
 use Rattle.afp_base.specs.declared.ids.LinkNumber.{LinkNumber}
 use Rattle.afp_serial.specs.declared.ask.Ask.{Ask}
@@ -48,12 +47,6 @@ turn-says c d now link asked (Live drain) sound t = entry-tells c d now link ask
 turn-says c d now link asked Done sound t = entry-tells c d now link asked Done t.0 sound t.1
 turn-says c d now link asked Displaced sound t = entry-tells c d now link asked Displaced t.0 sound t.1
 turn-says c d now link asked Memory sound t = record { answers = memory-tells asked; size = refl; memory = λ _. t.lacks.takes }
-
-first-core : (a b : Option ServerState) (xs ys : List (ℕ × Option ServerState)) → (0, a) ∷ xs ≡ (0, b) ∷ ys → a ≡ b
-first-core a b xs ys e = let p : (0, a) ≡ (0, b) = cc in ap (λ (z : ℕ × Option ServerState). z.1) p
-
-some-core : (a b : ServerState) → Some a ≡ Some b → a ≡ b
-some-core a b e = cc
 
 module _ (v : View) (t : ℕ) (m : Mine) (took : Takes (at_stage v (Waiting t), []) m) where
   abbrev h : List Entry
@@ -132,12 +125,6 @@ module _ (v : View) (t : ℕ) (m : Mine) (took : Takes (at_stage v (Waiting t), 
   -- what the whole turn tells
   pub ended : (now : ℕ) (link : LinkNumber) (asked : Ask) (told : Told) (k n : Mine) → 0 < v.share → length v.other ≡ 0 → IsSound v.start.world → k.0 ≡ w → DecidesAs told (call_of now link asked told) k n → Ends now link asked told n
   ended now link asked told k n live bare sound same e = decided now link asked told k.1 n live bare sound (subst (λ (x : View). DecidesAs told (call_of now link asked told) (x, k.1) n) same e)
-
-  pub same-core : (r : Option ServerState) (c : ServerState) → m.1 ≡ (0, r) ∷ rest m.1 → r ≡ Some c → c ≡ took.core
-  same-core r c there is =
-      let e : (0, r) ∷ rest m.1 ≡ (0, Some took.core) ∷ [] = sym there ∙ took-slot in
-      let q : r ≡ Some took.core = first-core r (Some took.core) (rest m.1) [] e in
-      some-core c took.core (sym is ∙ q)
 
 pub taken-at : (me : Mine) (t : ℕ) (m n : Mine) → m ≡ (at_stage me.0 (Waiting t), me.1) → me.1 ≡ [] → Takes m n → Takes (at_stage me.0 (Waiting t), []) n
 taken-at me t m n drawn empty took = subst (λ (x : Mine). Takes x n) (drawn ∙ ap (λ (l : List (ℕ × Option ServerState)). (at_stage me.0 (Waiting t), l)) empty) took

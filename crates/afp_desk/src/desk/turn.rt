@@ -70,6 +70,29 @@ fn wake_others<K: Keeper>(table: &CoreTable<K>, seat: &mut CoreSeat<K>, ticket: 
     }
 }
 
+/// The core takes its turn where it is, in the slot.
+fn turn_lent<K: Keeper>(
+    table: &CoreTable<K>,
+    seat: &mut CoreSeat<K>,
+    now: Moment,
+    link: LinkNumber,
+    ask: Ask,
+    out: &mut [u8],
+) -> Answered
+    requires table { seat.old.table_id ≡ table.now.table_id }
+    requires taken { (core : ServerState) × (seat.old.me.1 ≡ (0, Some core) ∷ []) }
+    requires room { tells_bytes ask ≡ true → payload_limit ≤ length out.old }
+    ensures same { (seat.new.table_id ≡ seat.old.table_id) × (seat.new.id ≡ seat.old.id) }
+    ensures view { seat.new.me.0 ≡ seat.old.me.0 }
+    ensures turned { (core : ServerState) → seat.old.me.1 ≡ (0, Some core) ∷ [] → (after : ServerState) × (seat.new.me.1 ≡ (0, Some after) ∷ []) × TakesTurn core now link ask (told_of result out.new) after }
+    ensures length { length out.new ≡ length out.old }
+{
+    let Some(core) = seat.slot_mut(table, 0) else {
+        unreachable!()
+    };
+    core.turn(now, link, ask, out)
+}
+
 /// A whole turn; the block of a reply is put at the front of `out`.
 pub(crate) fn take_turn<K: Keeper, R: Wait>(
     rt: &R,
@@ -91,13 +114,7 @@ pub(crate) fn take_turn<K: Keeper, R: Wait>(
     let asked = Snapshot::of(&ask);
     let ticket = table.fetch_add::<Draw>(seat, 0, 1);
     wait_turn(rt, table, seat, ticket);
-    let Some(mut core) = table.exchange(seat, 0, None) else {
-        unreachable!()
-    };
-    let answered = core.turn(now, link, ask, out);
-    let None = table.exchange(seat, 0, Some(core)) else {
-        unreachable!()
-    };
+    let answered = turn_lent(table, seat, now, link, ask, out);
     decide::<K, Brand>(table, seat, now, link, &asked, &answered, out);
     wake_others(table, seat, ticket);
     answered
