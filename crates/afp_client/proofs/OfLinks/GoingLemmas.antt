@@ -1,5 +1,5 @@
 -- What a step keeps: a client that takes frames, an opening, and the request that waits.
-use Rattle.std.proofs.Common.{◌≡◌, ℕ, List, [], Option, Some, None, Bool, true, false, IfSome, refl, ap, sym, subst, ◌∙◌, option_map, length, ◌==◌}
+use Rattle.std.proofs.Common.{◌≡◌, ◌⊎◌, ℕ, List, [], Option, Some, None, Bool, true, false, IfSome, inl, inr, refl, ap, sym, subst, ◌∙◌, option_map, length, ◌==◌}
 use Rattle.afp_base.specs.declared.code.Code.{Code}
 use Rattle.afp_outside.specs.ends.Link.{LinkState}
 use Rattle.afp_outside.specs.ends.Whole.{SendsPart}
@@ -18,6 +18,7 @@ use Rattle.afp_client.specs.declared.session.stage.OpeningStep.TheVariants as st
 use Rattle.afp_client.specs.declared.session.stage.Stage.{Stage}
 use Rattle.afp_client.specs.declared.session.stage.Stage.TheVariants as stages
 use Rattle.afp_client.specs.links.lemma.Coming.{LivesOn, LivesNext, Opening, OpensOn, OpensNext, next_of, opened_next}
+use Rattle.dsi_frame.specs.Stream.{IsUnfinished}
 use Rattle.afp_client.specs.declared.links.came.Came.{Came}
 use Rattle.afp_client.specs.declared.links.came.Came.TheVariants as comes
 use Rattle.afp_client.specs.declared.links.came.Next.TheVariants as nexts
@@ -186,6 +187,15 @@ opens_unsent old new out link after events.Tickle un h s = (going old new [] out
 opens_unsent old new out link after (events.Attention word) un h s = (going old new [] out (events.Attention word) h).waits un
 opens_unsent old new out link after events.Closed un h s = (going old new [] out events.Closed h).waits un
 
+-- nothing came whole
+nothing_came : (lost : Bool) (rest : List ℕ) → lost ≡ false → (lost ≡ true) ⊎ IsUnfinished rest → IsUnfinished rest
+nothing_came lost rest live (inl e) = absurd (true-false lost e live)
+nothing_came lost rest live (inr u) = u
+
+nothing_held : (old new : Client) (out out_after : List ℕ) → is_lost old.state.stage ≡ false → Happens old out events.NotYet new out_after → IsUnfinished new.held.rest
+nothing_held old new out out_after live h =
+    subst (λ (c : Client). IsUnfinished c.held.rest) (sym h.stays.client) (nothing_came (is_lost old.state.stage) old.held.rest live h.none)
+
 -- a read follows an event that brought nothing
 pub reads_is : (opening : Bool) (at : ℕ) (event : Event) → next_of opening at event ≡ nexts.Reads → event ≡ events.NotYet
 reads_is opening at events.NotYet e = refl
@@ -200,6 +210,11 @@ reads_is opening at (events.Lost c) e = absurd (cc e)
 reads_is opening at events.Tickle e = absurd (cc e)
 reads_is opening at (events.Attention word) e = absurd (cc e)
 reads_is opening at events.Closed e = absurd (cc e)
+
+-- less than a frame is held where a client that takes frames reads
+pub reads_unfinished : (opening : Bool) (at : ℕ) (old new : Client) (out out_after : List ℕ) (event : Event) → is_lost old.state.stage ≡ false → Happens old out event new out_after
+    → next_of opening at event ≡ nexts.Reads → IsUnfinished new.held.rest
+reads_unfinished opening at old new out out_after event live h e = nothing_held old new out out_after live (subst (λ (x : Event). Happens old out x new out_after) (reads_is opening at event e) h)
 
 -- one after the other
 pub opening-then : (s m t : ClientState) → Opening s m → Opening m t → Opening s t

@@ -11,7 +11,7 @@ use Rattle.dsi_session.specs.RequestIds.{first_request_id}
 use Rattle.afp_client.specs.session.Opening.{open_session_frame}
 use Rattle.afp_client.specs.session.Run as R
 use Rattle.afp_client.specs.session.Laws.{FollowsJoin}
-use Rattle.afp_client.specs.links.History.{received, was_quiet, tickled, closes, limited, asks, took, events_in, came_in, to_write, tickle_frame, close_session_frame}
+use Rattle.afp_client.specs.links.History.{received, was_quiet, read_last, tickled, limited, asks, took, events_in, came_in, to_write, tickle_frame}
 use Rattle.afp_client.specs.links.Laws.{LeadsFollows, WritesFrames, TakesBytes, actions_in, frames_in, all_frames_in}
 
 one-action : FollowsJoin → (s mid t : ClientState) (d : R.Action) (actions : List R.Action) (frames : List Frame) → R.Follows s actions mid frames → R.Does mid d t → R.Follows s (actions ++ d ∷ []) t (frames ++ R.writes_of mid d)
@@ -22,8 +22,8 @@ pub leads_follows : FollowsJoin → LeadsFollows
 leads_follows join s t [] l = (begun s, [], refl, refl, (l, refl))
 leads_follows join s t (received before now bytes ∷ all) l = leads_follows join s t all l
 leads_follows join s t (was_quiet before now ∷ all) l = leads_follows join s t all l
+leads_follows join s t (read_last before now ∷ all) l = leads_follows join s t all l
 leads_follows join s t (tickled ∷ all) l = leads_follows join s t all l
-leads_follows join s t (closes ∷ all) l = leads_follows join s t all l
 leads_follows join s t (limited m ∷ all) l = leads_follows join s t all l
 leads_follows join s t (asks mid call ∷ all) l = one-action join s mid t (R.asks call) (actions_in all) (frames_in all) (leads_follows join s mid all l.0) (l.1, l.2)
 leads_follows join s t (took mid f st ∷ all) l = one-action join s mid t (R.takes_frame f st) (actions_in all) (frames_in all) (leads_follows join s mid all l.0) (l.1, l.2, l.3, l.4, l.5)
@@ -42,8 +42,8 @@ pub writes_frames : WritesFrames
 writes_frames [] = sym (spells-one (open_session_frame first_request_id))
 writes_frames (received before now bytes ∷ all) = writes_frames all
 writes_frames (was_quiet before now ∷ all) = writes_frames all
+writes_frames (read_last before now ∷ all) = writes_frames all
 writes_frames (tickled ∷ all) = more-frames (to_write all) (canonical_frame tickle_frame) (all_frames_in all) (tickle_frame ∷ []) (writes_frames all) (spells-one tickle_frame)
-writes_frames (closes ∷ all) = more-frames (to_write all) (canonical_frame close_session_frame) (all_frames_in all) (close_session_frame ∷ []) (writes_frames all) (spells-one close_session_frame)
 writes_frames (limited l ∷ all) = writes_frames all
 writes_frames (asks s call ∷ all) = more-frames (to_write all) (canonical_frame (call_frame s.next_id call)) (all_frames_in all) (call_frame s.next_id call ∷ []) (writes_frames all) (spells-one (call_frame s.next_id call))
 writes_frames (took s f st ∷ all) = more-frames (to_write all) (written st.writes) (all_frames_in all) (listed st.writes) (writes_frames all) (spells-listed st.writes)
@@ -57,8 +57,8 @@ pub takes_bytes : TakesBytes
 takes_bytes [] = refl
 takes_bytes (received before now bytes ∷ all) = taken-one (events_in all) (piece before now bytes ∷ []) ∙ ap (λ (x : List ℕ). x ++ (bytes ++ [])) (takes_bytes all) ∙ ap (λ (x : List ℕ). came_in all ++ x) (append-nil bytes)
 takes_bytes (was_quiet before now ∷ all) = taken-one (events_in all) (quiet before now ∷ []) ∙ append-nil (bytes_taken (events_in all)) ∙ takes_bytes all
+takes_bytes (read_last before now ∷ all) = takes_bytes all
 takes_bytes (tickled ∷ all) = takes_bytes all
-takes_bytes (closes ∷ all) = takes_bytes all
 takes_bytes (limited l ∷ all) = takes_bytes all
 takes_bytes (asks s call ∷ all) = takes_bytes all
 takes_bytes (took s f st ∷ all) = takes_bytes all

@@ -1,10 +1,11 @@
 -- How much may be spent.
-use Rattle.std.proofs.Common.{◌≡◌, ℕ, ◌+◌, ◌<◌, ◌≤◌, Bool, false, List, [], ◌∷◌, Option, Some, None, refl, sym, ap, subst, ◌∙◌, arith}
+use Rattle.std.proofs.Common.{◌≡◌, ℕ, List, [], ◌∷◌, Option, Some, None, refl, sym, ap, ◌∙◌}
 use Rattle.std.specs.Prelude.{IsSome}
 use Rattle.afp_outside.specs.ends.Link.{LinkState}
 use Rattle.afp_outside.specs.ends.Dialer.{DialerState}
 use Rattle.afp_client.specs.session.State.{Client}
 use Rattle.afp_client.specs.links.History.{Happening, allowed, limited, limits_in}
+use Rattle.afp_client.specs.declared.links.noted.Noted.{Noted}
 use Rattle.afp_client.specs.links.OnLink.{Start}
 use Rattle.afp_client.specs.links.Links.{Part, Past, SameOver, all_limits, dialled, limits_of}
 use Rattle.afp_client.specs.links.Talk.{TalkAt}
@@ -26,14 +27,14 @@ pub allowed-past : {L : Type 0} (state : L → LinkState) (turns : ℕ) (first f
 allowed-past state turns first from past is h = is ∙ ap allowed (sym (past-limits state first from past h))
 
 -- another limit is set
-pub limits_talk : {L : Type 0} (state : L → LinkState) (first : Start) (old : DialerState L) (past : List (Part L)) (all : List Happening) (link : Option L) (c : Client) (replied : Bool) (idle cost turns : ℕ) (dialer : DialerState L)
-    → IsSome link → TalkAt state first old past all link c replied idle cost dialer
-    → TalkAt state first old past (limited (record { turns = turns; spent = cost }) ∷ all) link c replied idle cost dialer
-limits_talk state first old past all (Some link) c replied idle cost turns dialer some o = record {
+pub limits_talk : {L : Type 0} (state : L → LinkState) (first : Start) (old : DialerState L) (past : List (Part L)) (all : List Happening) (link : Option L) (c : Client) (noted : Noted) (idle cost turns : ℕ) (dialer : DialerState L)
+    → IsSome link → TalkAt state first old past all link c noted idle cost dialer
+    → TalkAt state first old past (limited (record { turns = turns; spent = cost }) ∷ all) link c noted idle cost dialer
+limits_talk state first old past all (Some link) c noted idle cost turns dialer some o = record {
   from = o.from;
   past_is = o.past_is;
-  on = on-limits (dialled o.from) all c [] (state link) replied cost (record { turns = turns; spent = cost }) o.on refl;
+  on = on-limits (dialled o.from) all c (state link) noted cost (record { turns = turns; spent = cost }) o.on refl;
   in_a_row = o.in_a_row;
   hands = o.hands;
 }
-limits_talk state first old past all None c replied idle cost turns dialer some o = absurd (cc some)
+limits_talk state first old past all None c noted idle cost turns dialer some o = absurd (cc some)

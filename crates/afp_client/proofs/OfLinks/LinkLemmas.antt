@@ -1,17 +1,20 @@
 -- A link, one step further.
-use Rattle.std.proofs.Common.{◌≡◌, ℕ, ◌+◌, ◌<◌, Bool, ◌||◌, List, [], ◌∷◌, ◌++◌, take, refl, sym, ap, subst, ◌∙◌, append_assoc, length-append, length-take, arith}
+use Rattle.std.proofs.Common.{◌≡◌, ℕ, ◌+◌, ◌<◌, Bool, ◌||◌, List, [], ◌∷◌, ◌++◌, take, refl, sym, ap, subst, ◌∙◌, append-nil, append_assoc, length-append, length-take, arith}
 use Rattle.std.specs.Prelude.{Option, Some, None, IfSome, option_map}
 use Rattle.afp_outside.specs.ends.Link.{Event, piece, quiet, LinkState, ReadsPiece, ReadsQuiet}
+use Rattle.dsi_frame.specs.Stream.{IsUnfinished}
 use Rattle.afp_outside.specs.ends.Whole.{Sends, SendsPart}
 use Rattle.afp_calls_grammar.specs.declared.grammar.call.Call.{Call}
-use Rattle.dsi_frame.specs.Frame.{canonical_frame}
+use Rattle.dsi_frame.specs.Frame.{Frame, canonical_frame}
 use Rattle.dsi_frame.proofs.StreamLemmas.{spelled_push}
 use Rattle.afp_client.specs.session.State.{Client, ClientState, IsReady, call_frame, is_opened}
 use Rattle.afp_client.specs.session.Takes.{asked, step, written}
 use Rattle.afp_client.specs.session.Happens.{TakesNext}
 use Rattle.afp_client.specs.declared.session.event.Event.{Event as ClientEvent}
-use Rattle.afp_client.specs.links.History.{Happening, received, was_quiet, tickled, closes, limited, asks, took, allowed, cost_in, events_in, limits_in, taken_in, to_write, is_reply, tickle_frame, close_session_frame, Leads}
-use Rattle.afp_client.specs.links.OnLink.{Affords, Start, spot, OnLink}
+use Rattle.afp_client.specs.links.History.{Happening, received, was_quiet, read_last, tickled, limited, asks, took, allowed, cost_in, events_in, limits_in, now_in, taken_in, to_write, is_reply, tickle_frame, wrote_by, wrote_in, Leads}
+use Rattle.afp_client.specs.links.OnLink.{Affords, IsTickleDue, LiveOn, MayRead, OnLink, Start, spot, wrote_with}
+use Rattle.afp_client.specs.links.lemma.Coming.{NotesWrite}
+use Rattle.afp_client.specs.declared.links.noted.Noted.{Noted}
 use Rattle.afp_client.specs.declared.links.talk.Limit.{Limit}
 
 -- what is told goes on with what happens
@@ -41,153 +44,265 @@ sent-same o n out all e h = subst (λ (x : Option (List ℕ)). IfSome x (λ w. w
 pub affords : (start : Start) (all : List Happening) (cost : ℕ) → cost ≡ start.spent + cost_in all → cost < allowed (limits_in start.limits all) → Affords start all
 affords start all cost is less = subst (λ (n : ℕ). n < allowed (limits_in start.limits all)) is less
 
+-- what is noted of a write: nothing where nothing is written
+pub notes_none : (piece : List ℕ) (now : ℕ) (noted : Noted) → piece ≡ [] → NotesWrite piece now noted noted
+notes_none [] now noted e = record { wrote = refl; replied = refl }
+notes_none (b ∷ bytes) now noted e = absurd (cc e)
+
+pub notes_some : (piece : List ℕ) (now : ℕ) (old new : Noted) → (piece ≡ [] → ⊥) → new.pulse.last_write ≡ now → new.replied ≡ old.replied → NotesWrite piece now old new
+notes_some [] now old new some wrote replied = absurd (some refl)
+notes_some (b ∷ bytes) now old new some wrote replied = record { wrote = wrote; replied = replied }
+
+-- a part is written yet of what is to be written: the moment of the write stands
+still-wrote : (wrote rest out : List ℕ) (now last then : ℕ) → wrote ++ rest ≡ out → then ≡ wrote_with out now last → wrote_with rest now then ≡ wrote_with out now last
+still-wrote wrote [] out now last then cut is = is
+still-wrote [] (b ∷ rest) [] now last then cut is = absurd (cc cut)
+still-wrote [] (b ∷ rest) (d ∷ out) now last then cut is = refl
+still-wrote (a ∷ wrote) (b ∷ rest) [] now last then cut is = absurd (cc cut)
+still-wrote (a ∷ wrote) (b ∷ rest) (d ∷ out) now last then cut is = refl
+
 -- bytes were written
-pub on-sends : (start : Start) (all : List Happening) (c : Client) (out wrote rest : List ℕ) (link new : LinkState) (replied : Bool) (cost failed : ℕ)
-    → OnLink start all (spot c out link replied cost) → wrote ++ rest ≡ out → Sends link wrote failed new → OnLink start all (spot c rest new replied cost)
-on-sends start all c out wrote rest link new replied cost failed on cut s = record {
-  leads = on.leads;
-  told = told-same link.events new.events (events_in all) s.events on.told;
-  filled = on.filled;
-  spelled = on.spelled;
-  came = on.came;
-  place = on.place;
-  sent = sent-part link.written new.written wrote rest out (to_write all) s.written cut on.sent;
-  replied = on.replied;
-  cost = on.cost;
-  below = on.below;
-  within = on.within;
-}
+pub on-sends : (start : Start) (all : List Happening) (c : Client) (out wrote rest : List ℕ) (link new : LinkState) (noted then_noted : Noted) (cost failed : ℕ)
+    → LiveOn start all (spot c out link noted cost) → wrote ++ rest ≡ out → Sends link wrote failed new → NotesWrite out link.now noted then_noted → LiveOn start all (spot c rest new then_noted cost)
+on-sends start all c out wrote rest link new noted then_noted cost failed live cut s n =
+    let on = live.on in record {
+      on = record {
+        leads = on.leads;
+        told = told-same link.events new.events (events_in all) s.events on.told;
+        filled = on.filled;
+        spelled = on.spelled;
+        came = on.came;
+        place = on.place;
+        sent = sent-part link.written new.written wrote rest out (to_write all) s.written cut on.sent;
+        replied = n.replied ∙ on.replied;
+        cost = on.cost;
+        below = on.below;
+        within = on.within;
+        began = on.began;
+        moment = s.now ∙ on.moment;
+        last_read = s.last_read ∙ on.last_read;
+        last_write = ap (λ (now : ℕ). wrote_with rest now then_noted.pulse.last_write) s.now ∙ still-wrote wrote rest out link.now noted.pulse.last_write then_noted.pulse.last_write cut n.wrote ∙ on.last_write;
+        reads = on.reads;
+        idles = on.idles;
+      };
+      rests = live.rests;
+    }
 
 -- a write failed behind a first part of what is to be written
-pub on-part : (start : Start) (all : List Happening) (c : Client) (out : List ℕ) (link new : LinkState) (replied : Bool) (cost : ℕ)
-    → OnLink start all (spot c out link replied cost) → (s : SendsPart link out new) → OnLink start all (spot c s.lost new replied cost)
-on-part start all c out link new replied cost on s = on-sends start all c out s.part s.lost link new replied cost 1 on s.cut s.sends
+pub on-part : (start : Start) (all : List Happening) (c : Client) (out : List ℕ) (link new : LinkState) (noted then_noted : Noted) (cost : ℕ)
+    → LiveOn start all (spot c out link noted cost) → (s : SendsPart link out new) → NotesWrite out link.now noted then_noted → LiveOn start all (spot c s.lost new then_noted cost)
+on-part start all c out link new noted then_noted cost live s n = on-sends start all c out s.part s.lost link new noted then_noted cost 1 live s.cut s.sends n
 
 -- its fault is counted
 pub unsent-counted : (link new : LinkState) (out : List ℕ) → SendsPart link out new → 0 < new.write_faults
 unsent-counted link new out s = omega (arith, s.sends.write_faults.2)
 
--- a frame was taken
-pub on-takes : (start : Start) (all : List Happening) (old new : Client) (out out_after : List ℕ) (link : LinkState) (replied now_replied : Bool) (cost : ℕ) (event : ClientEvent)
-    → OnLink start all (spot old out link replied cost) → (t : TakesNext old out event new out_after) → now_replied ≡ (is_reply (is_opened old.state.stage) event || replied)
-    → OnLink start (took old.state t.frame (step new.state t.writes event) ∷ all) (spot new out_after link now_replied cost)
-on-takes start all old new out out_after link replied now_replied cost event on t is = record {
-  leads = (on.leads, t.live, t.found, t.tells, t.taken, refl);
-  told = on.told;
-  filled = on.filled ++ t.first;
-  spelled = spelled_push on.filled t.first (taken_in all) t.frame on.spelled t.spelling;
-  came = on.came ∙ ap (λ (x : List ℕ). on.filled ++ x) t.whole ∙ sym (append_assoc on.filled t.first new.held.rest);
-  place = omega (arith, t.place, on.place, length-append on.filled t.first);
-  sent = subst (λ (x : List ℕ). IfSome link.written (λ w. w ++ x ≡ to_write all ++ written t.writes)) (sym t.sent) (sent-more link.written out (written t.writes) (to_write all) on.sent);
-  replied = is ∙ ap (λ (b : Bool). is_reply (is_opened old.state.stage) event || b) on.replied;
-  cost = on.cost;
-  below = on.below;
-  within = on.within;
+-- the moment of a write that a step makes
+wrote-step : (w : Option Frame) (now last in_all : ℕ) → now ≡ in_all → (before : ℕ) → last ≡ before → wrote_with (written w) now last ≡ wrote_by w in_all before
+wrote-step None now last in_all e before l = l
+wrote-step (Some f) now last in_all e before l = e
+
+-- a frame was taken, where all was written
+pub on-takes : (start : Start) (all : List Happening) (old new : Client) (out_after : List ℕ) (link : LinkState) (noted now_noted : Noted) (cost : ℕ) (event : ClientEvent)
+    → LiveOn start all (spot old [] link noted cost) → (t : TakesNext old [] event new out_after) → now_noted ≡ record noted { replied = is_reply (is_opened old.state.stage) event || noted.replied }
+    → LiveOn start (took old.state t.frame (step new.state t.writes event) ∷ all) (spot new out_after link now_noted cost)
+on-takes start all old new out_after link noted now_noted cost event live t is =
+    let on = live.on in record {
+      on = record {
+        leads = (on.leads, t.live, t.found, t.tells, t.taken, refl);
+        told = on.told;
+        filled = on.filled ++ t.first;
+        spelled = spelled_push on.filled t.first (taken_in all) t.frame on.spelled t.spelling;
+        came = on.came ∙ ap (λ (x : List ℕ). on.filled ++ x) t.whole ∙ sym (append_assoc on.filled t.first new.held.rest);
+        place = omega (arith, t.place, on.place, length-append on.filled t.first);
+        sent = subst (λ (x : List ℕ). IfSome link.written (λ w. w ++ x ≡ to_write all ++ written t.writes)) (sym t.sent) (sent-more link.written [] (written t.writes) (to_write all) on.sent);
+        replied = ap (λ (n : Noted). n.replied) is ∙ ap (λ (b : Bool). is_reply (is_opened old.state.stage) event || b) on.replied;
+        cost = on.cost;
+        below = on.below;
+        within = on.within;
+        began = on.began;
+        moment = on.moment;
+        last_read = on.last_read;
+        last_write = ap (λ (x : List ℕ). wrote_with x link.now now_noted.pulse.last_write) t.sent ∙ wrote-step t.writes link.now now_noted.pulse.last_write (now_in on.began all) on.moment (wrote_in on.began all)
+            (ap (λ (n : Noted). n.pulse.last_write) is ∙ on.last_write);
+        reads = on.reads;
+        idles = (on.idles, live.rests);
+      };
+      rests = tt;
+    }
+
+-- all that stood before a read was written
+all-sent : (written : Option (List ℕ)) (all : List ℕ) → IfSome written (λ w. w ++ [] ≡ all) → IfSome written (λ w. w ≡ all)
+all-sent None all h = tt
+all-sent (Some w) all h = sym (append-nil w) ∙ h
+
+-- a read is made where less than a frame is held
+may-read : (start : Start) (all : List Happening) (c : Client) (link : LinkState) (noted : Noted) (cost : ℕ) → OnLink start all (spot c [] link noted cost) → IsUnfinished c.held.rest → MayRead link.written all
+may-read start all c link noted cost on none = record {
+  left = c.held.rest;
+  framed = record { filled = on.filled; spelled = on.spelled; whole = on.came; unfinished = none };
+  sent = all-sent link.written (to_write all) on.sent;
 }
 
 -- bytes came
-pub on-receives : (start : Start) (all : List Happening) (old new : Client) (link after : LinkState) (room : List ℕ) (n : ℕ) (replied : Bool) (cost : ℕ)
-    → cost < allowed (limits_in start.limits all) → OnLink start all (spot old [] link replied cost) → ReadsPiece link room n after → new.state ≡ old.state → new.held.place ≡ old.held.place → new.held.rest ≡ old.held.rest ++ take n room
-    → OnLink start (received link.written after.now (take n room) ∷ all) (spot new [] after replied (cost + n))
-on-receives start all old new link after room n replied cost less on r state place rest = record {
-  leads = subst (λ (s : ClientState). Leads start.state all s) (sym state) on.leads;
-  told = told-more link.events after.events (piece link.written after.now (take n room) ∷ []) (events_in all) r.events on.told;
-  filled = on.filled;
-  spelled = on.spelled;
-  came = ap (λ (x : List ℕ). x ++ take n room) on.came ∙ append_assoc on.filled old.held.rest (take n room) ∙ ap (λ (x : List ℕ). on.filled ++ x) (sym rest);
-  place = place ∙ on.place;
-  sent = sent-same link.written after.written [] (to_write all) r.written on.sent;
-  replied = on.replied;
-  cost = omega (arith, on.cost, length-take n room, r.most);
-  below = on.below;
-  within = (on.within, affords start all cost on.cost less);
-}
+pub on-receives : (start : Start) (all : List Happening) (old new : Client) (link after : LinkState) (room : List ℕ) (n : ℕ) (noted : Noted) (cost : ℕ)
+    → cost < allowed (limits_in start.limits all) → IsUnfinished old.held.rest → LiveOn start all (spot old [] link noted cost) → ReadsPiece link room n after → new.state ≡ old.state → new.held.place ≡ old.held.place
+    → new.held.rest ≡ old.held.rest ++ take n room
+    → LiveOn start (received link.written after.now (take n room) ∷ all) (spot new [] after noted (cost + n))
+on-receives start all old new link after room n noted cost less none live r state place rest =
+    let on = live.on in record {
+      on = record {
+        leads = subst (λ (s : ClientState). Leads start.state all s) (sym state) on.leads;
+        told = told-more link.events after.events (piece link.written after.now (take n room) ∷ []) (events_in all) r.events on.told;
+        filled = on.filled;
+        spelled = on.spelled;
+        came = ap (λ (x : List ℕ). x ++ take n room) on.came ∙ append_assoc on.filled old.held.rest (take n room) ∙ ap (λ (x : List ℕ). on.filled ++ x) (sym rest);
+        place = place ∙ on.place;
+        sent = sent-same link.written after.written [] (to_write all) r.written on.sent;
+        replied = on.replied;
+        cost = omega (arith, on.cost, length-take n room, r.most);
+        below = on.below;
+        within = (on.within, affords start all cost on.cost less);
+        began = on.began;
+        moment = refl;
+        last_read = r.last_read;
+        last_write = on.last_write;
+        reads = (on.reads, may-read start all old link noted cost on none);
+        idles = (on.idles, live.rests);
+      };
+      rests = tt;
+    }
 
 -- a quiet came
-pub on-quiet : (start : Start) (all : List Happening) (c : Client) (link after : LinkState) (replied : Bool) (cost : ℕ)
-    → cost < allowed (limits_in start.limits all) → OnLink start all (spot c [] link replied cost) → ReadsQuiet link after
-    → OnLink start (was_quiet link.written after.now ∷ all) (spot c [] after replied (cost + 1))
-on-quiet start all c link after replied cost less on r = record {
-  leads = on.leads;
-  told = told-more link.events after.events (quiet link.written after.now ∷ []) (events_in all) r.events on.told;
-  filled = on.filled;
-  spelled = on.spelled;
-  came = on.came;
-  place = on.place;
-  sent = sent-same link.written after.written [] (to_write all) r.written on.sent;
-  replied = on.replied;
-  cost = omega (arith, on.cost);
-  below = on.below;
-  within = (on.within, affords start all cost on.cost less);
-}
-
--- a Tickle is to be written
-pub on-tickles : (start : Start) (all : List Happening) (c : Client) (out out_after : List ℕ) (link : LinkState) (replied : Bool) (cost : ℕ)
-    → OnLink start all (spot c out link replied cost) → out_after ≡ out ++ canonical_frame tickle_frame → OnLink start (tickled ∷ all) (spot c out_after link replied cost)
-on-tickles start all c out out_after link replied cost on is = record {
-  leads = on.leads;
-  told = on.told;
-  filled = on.filled;
-  spelled = on.spelled;
-  came = on.came;
-  place = on.place;
-  sent = subst (λ (x : List ℕ). IfSome link.written (λ w. w ++ x ≡ to_write all ++ canonical_frame tickle_frame)) (sym is) (sent-more link.written out (canonical_frame tickle_frame) (to_write all) on.sent);
-  replied = on.replied;
-  cost = on.cost;
-  below = on.below;
-  within = on.within;
-}
-
--- CloseSession is to be written
-pub on-closes : (start : Start) (all : List Happening) (c : Client) (out out_after : List ℕ) (link : LinkState) (replied : Bool) (cost : ℕ)
-    → OnLink start all (spot c out link replied cost) → out_after ≡ out ++ canonical_frame close_session_frame → OnLink start (closes ∷ all) (spot c out_after link replied cost)
-on-closes start all c out out_after link replied cost on is = record {
-  leads = on.leads;
-  told = on.told;
-  filled = on.filled;
-  spelled = on.spelled;
-  came = on.came;
-  place = on.place;
-  sent = subst (λ (x : List ℕ). IfSome link.written (λ w. w ++ x ≡ to_write all ++ canonical_frame close_session_frame)) (sym is) (sent-more link.written out (canonical_frame close_session_frame) (to_write all) on.sent);
-  replied = on.replied;
-  cost = on.cost;
-  below = on.below;
-  within = on.within;
-}
-
--- a call is asked
-pub on-asks : (start : Start) (all : List Happening) (old new : Client) (call : Call) (out out_after : List ℕ) (link : LinkState) (replied : Bool) (cost : ℕ)
-    → OnLink start all (spot old out link replied cost) → IsReady old.state → new ≡ record old { state = asked old.state call } → out_after ≡ out ++ canonical_frame (call_frame old.state.next_id call)
-    → OnLink start (asks old.state call ∷ all) (spot new out_after link replied cost)
-on-asks start all old new call out out_after link replied cost on ready is sends =
-    subst (λ (x : Client). OnLink start (asks old.state call ∷ all) (spot x out_after link replied cost)) (sym is) record {
-      leads = (on.leads, ready, refl);
-      told = on.told;
+pub on-quiet : (start : Start) (all : List Happening) (c : Client) (link after : LinkState) (noted : Noted) (cost : ℕ)
+    → cost < allowed (limits_in start.limits all) → IsUnfinished c.held.rest → LiveOn start all (spot c [] link noted cost) → ReadsQuiet link after
+    → OnLink start (was_quiet link.written after.now ∷ all) (spot c [] after noted (cost + 1))
+on-quiet start all c link after noted cost less none live r =
+    let on = live.on in record {
+      leads = on.leads;
+      told = told-more link.events after.events (quiet link.written after.now ∷ []) (events_in all) r.events on.told;
       filled = on.filled;
       spelled = on.spelled;
       came = on.came;
       place = on.place;
-      sent = subst (λ (x : List ℕ). IfSome link.written (λ w. w ++ x ≡ to_write all ++ canonical_frame (call_frame old.state.next_id call))) (sym sends)
-          (sent-more link.written out (canonical_frame (call_frame old.state.next_id call)) (to_write all) on.sent);
+      sent = sent-same link.written after.written [] (to_write all) r.written on.sent;
+      replied = on.replied;
+      cost = omega (arith, on.cost);
+      below = on.below;
+      within = (on.within, affords start all cost on.cost less);
+      began = on.began;
+      moment = refl;
+      last_read = r.last_read ∙ on.last_read;
+      last_write = on.last_write;
+      reads = (on.reads, may-read start all c link noted cost on none);
+      idles = (on.idles, live.rests);
+    }
+
+-- a read was the last: it found the end, or failed
+pub on-last : (start : Start) (all : List Happening) (c : Client) (link after : LinkState) (noted : Noted) (cost : ℕ)
+    → cost < allowed (limits_in start.limits all) → IsUnfinished c.held.rest → LiveOn start all (spot c [] link noted cost)
+    → after.events ≡ link.events → after.written ≡ link.written → after.last_read ≡ link.last_read
+    → OnLink start (read_last link.written after.now ∷ all) (spot c [] after noted cost)
+on-last start all c link after noted cost less none live events written last =
+    let on = live.on in record {
+      leads = on.leads;
+      told = told-same link.events after.events (events_in all) events on.told;
+      filled = on.filled;
+      spelled = on.spelled;
+      came = on.came;
+      place = on.place;
+      sent = sent-same link.written after.written [] (to_write all) written on.sent;
       replied = on.replied;
       cost = on.cost;
       below = on.below;
-      within = on.within;
+      within = (on.within, affords start all cost on.cost less);
+      began = on.began;
+      moment = refl;
+      last_read = last ∙ on.last_read;
+      last_write = on.last_write;
+      reads = (on.reads, may-read start all c link noted cost on none);
+      idles = (on.idles, live.rests);
+    }
+
+-- a Tickle is to be written
+pub on-tickles : (start : Start) (all : List Happening) (c : Client) (out : List ℕ) (link : LinkState) (noted : Noted) (cost : ℕ)
+    → (on : OnLink start all (spot c [] link noted cost)) → IsTickleDue on.began all → out ≡ [] ++ canonical_frame tickle_frame → LiveOn start (tickled ∷ all) (spot c out link noted cost)
+on-tickles start all c out link noted cost on due is = record {
+  on = record {
+    leads = on.leads;
+    told = on.told;
+    filled = on.filled;
+    spelled = on.spelled;
+    came = on.came;
+    place = on.place;
+    sent = subst (λ (x : List ℕ). IfSome link.written (λ w. w ++ x ≡ to_write all ++ canonical_frame tickle_frame)) (sym is) (sent-more link.written [] (canonical_frame tickle_frame) (to_write all) on.sent);
+    replied = on.replied;
+    cost = on.cost;
+    below = on.below;
+    within = on.within;
+    began = on.began;
+    moment = on.moment;
+    last_read = on.last_read;
+    last_write = ap (λ (x : List ℕ). wrote_with x link.now noted.pulse.last_write) is ∙ on.moment;
+    reads = on.reads;
+    idles = (on.idles, due);
+  };
+  rests = tt;
+}
+
+-- a call is asked
+pub on-asks : (start : Start) (all : List Happening) (old new : Client) (call : Call) (out : List ℕ) (link : LinkState) (noted : Noted) (cost : ℕ)
+    → LiveOn start all (spot old [] link noted cost) → IsReady old.state → new ≡ record old { state = asked old.state call } → out ≡ [] ++ canonical_frame (call_frame old.state.next_id call)
+    → LiveOn start (asks old.state call ∷ all) (spot new out link noted cost)
+on-asks start all old new call out link noted cost live ready is sends =
+    let on = live.on in
+    subst (λ (x : Client). LiveOn start (asks old.state call ∷ all) (spot x out link noted cost)) (sym is) record {
+      on = record {
+        leads = (on.leads, ready, refl);
+        told = on.told;
+        filled = on.filled;
+        spelled = on.spelled;
+        came = on.came;
+        place = on.place;
+        sent = subst (λ (x : List ℕ). IfSome link.written (λ w. w ++ x ≡ to_write all ++ canonical_frame (call_frame old.state.next_id call))) (sym sends)
+            (sent-more link.written [] (canonical_frame (call_frame old.state.next_id call)) (to_write all) on.sent);
+        replied = on.replied;
+        cost = on.cost;
+        below = on.below;
+        within = on.within;
+        began = on.began;
+        moment = on.moment;
+        last_read = on.last_read;
+        last_write = ap (λ (x : List ℕ). wrote_with x link.now noted.pulse.last_write) sends ∙ on.moment;
+        reads = on.reads;
+        idles = (on.idles, live.rests);
+      };
+      rests = tt;
     }
 
 -- a limit is set
-pub on-limits : (start : Start) (all : List Happening) (c : Client) (out : List ℕ) (link : LinkState) (replied : Bool) (cost : ℕ) (l : Limit) → OnLink start all (spot c out link replied cost) → l.spent ≡ cost
-    → OnLink start (limited l ∷ all) (spot c out link replied cost)
-on-limits start all c out link replied cost l on is = record {
-  leads = on.leads;
-  told = on.told;
-  filled = on.filled;
-  spelled = on.spelled;
-  came = on.came;
-  place = on.place;
-  sent = on.sent;
-  replied = on.replied;
-  cost = on.cost;
-  below = on.below;
-  within = (on.within, is ∙ on.cost);
-}
+pub on-limits : (start : Start) (all : List Happening) (c : Client) (link : LinkState) (noted : Noted) (cost : ℕ) (l : Limit) → LiveOn start all (spot c [] link noted cost) → l.spent ≡ cost
+    → LiveOn start (limited l ∷ all) (spot c [] link noted cost)
+on-limits start all c link noted cost l live is =
+    let on = live.on in record {
+      on = record {
+        leads = on.leads;
+        told = on.told;
+        filled = on.filled;
+        spelled = on.spelled;
+        came = on.came;
+        place = on.place;
+        sent = on.sent;
+        replied = on.replied;
+        cost = on.cost;
+        below = on.below;
+        within = (on.within, is ∙ on.cost);
+        began = on.began;
+        moment = on.moment;
+        last_read = on.last_read;
+        last_write = on.last_write;
+        reads = on.reads;
+        idles = (on.idles, live.rests);
+      };
+      rests = tt;
+    }

@@ -1,5 +1,5 @@
 -- What a call is told over links.
-use Rattle.std.proofs.Common.{◌≡◌, ℕ, ◌+◌, Bool, true, false, List, [], ◌∷◌, ◌++◌, length, Option, Some, None, Result, Ok, Err, inl, inr, refl, sym, ap, subst, ◌∙◌, append_assoc, arith}
+use Rattle.std.proofs.Common.{◌≡◌, ℕ, ◌+◌, Bool, List, [], ◌∷◌, ◌++◌, length, Option, Some, None, Result, Ok, Err, inl, inr, refl, sym, ap, subst, ◌∙◌, append_assoc}
 use Rattle.afp_base.specs.declared.code.Code.{Code}
 use Rattle.afp_outside.specs.ends.Link.{LinkState}
 use Rattle.afp_calls_grammar.specs.declared.grammar.call.Call.{Call}
@@ -11,20 +11,21 @@ use Rattle.afp_client.specs.declared.session.event.Event.{Event}
 use Rattle.afp_client.specs.declared.session.event.Event.TheVariants as events
 use Rattle.afp_outside.specs.ends.Dialer.{DialerState, TakesBack}
 use Rattle.afp_outside.specs.ends.Whole.{SendsAll}
-use Rattle.afp_client.specs.links.History.{Happening, asks, closes, close_session_frame, took, asked_in, results_in, asked_by, result_by, told_to}
-use Rattle.afp_client.specs.links.OnLink.{Start, spot, OnLink}
+use Rattle.afp_client.specs.links.History.{Happening, asks, close_session_frame, took, asked_in, results_in, asked_by, result_by, told_to}
+use Rattle.afp_client.specs.links.OnLink.{Start, spot, LiveOn}
 use Rattle.afp_client.specs.links.Links.{Part, Over, Hands, dialled, links_of, asked_of, limits_of, results_of, all_asked, all_limits, all_results}
 use Rattle.afp_client.specs.declared.links.talk.Limit.{Limit}
-use Rattle.afp_client.specs.links.lemma.Coming.{ComesBy, ComesTold, CameOn}
-use Rattle.afp_client.specs.links.lemma.Rejoining.{HasNone, LeavesLink, LeavesNone}
+use Rattle.afp_client.specs.links.Coming.{ComesBy, ComesTold, CameOn}
+use Rattle.afp_client.specs.links.Ends.{HasNone, LeavesNone}
+use Rattle.afp_client.specs.links.lemma.Rejoining.{LeavesLink}
 use Rattle.afp_client.specs.links.Talk.{AsksTalk, TalkAt, Connects, OpensLeft, TellsCall, TellsLeft, EndsOnLink, EndsTalk, Answers, ClosesLink, LeavesOpen, end_of}
+use Rattle.afp_client.specs.declared.links.noted.Noted.{Noted}
 use Rattle.afp_client.specs.declared.links.came.Came.{Came}
 use Rattle.afp_client.specs.declared.links.came.Came.TheVariants as comes
 use Rattle.afp_client.specs.declared.links.links.Answered.{Answered}
 use Rattle.afp_client.specs.declared.links.links.TalkEnd.{TalkEnd}
 use Rattle.afp_client.specs.declared.links.links.TalkEnd.TheVariants as ends
-use Rattle.afp_client.proofs.OfLinks.LinkLemmas.{on-asks, on-closes, on-part, unsent-counted}
-use Rattle.afp_client.proofs.OfLinks.NextLemmas.{on-sent}
+use Rattle.afp_client.proofs.OfLinks.LinkLemmas.{on-asks}
 use Rattle.afp_client.proofs.OfLinks.JoinLemmas.{same_over-same}
 
 -- a reply that is told gives the result of the call that waits
@@ -34,17 +35,17 @@ result-told was call c block event before waits is =
     ap (λ (e : Event). result_by was e before) is ∙ ap (λ (w : Option Call). told_to w c block before) waits
 
 pub tells-call : {L : Type 0} (state : L → LinkState) (turns : ℕ) (first : Start) (old : DialerState L) (past : List (Part L)) (all asked_all : List Happening) (call : Call) (link : L) (at : ℕ) (c : Code) (block : List ℕ)
-    (client : Client) (replied : Bool) (idle cost : ℕ) (new : DialerState L)
+    (client : Client) (noted : Noted) (idle cost : ℕ) (new : DialerState L)
     → ((was : Option Call) → all_results was past asked_all ≡ all_results was past all) → ((was : Option Call) → all_asked was past asked_all ≡ Some call)
     → ((was : List Limit) → all_limits was past asked_all ≡ all_limits was past all)
-    → LeavesLink state turns first old past asked_all link (comes.Told at c block) client replied idle cost new
-    → TellsCall state first old past all call at c block (spot client [] (state link) replied cost) idle new
-tells-call {L = L} state turns first old past all asked_all call link at c block client replied idle cost new stay waits unlimited l =
-    let told : ComesTold (dialled l.from) l.now at (events.Told c block) client (state link) replied cost = l.comes in
-    let b : ComesBy (dialled l.from) l.now (events.Told c block) client (state link) replied cost = told.by in record {
+    → LeavesLink state turns first old past asked_all link (comes.Told at c block) client noted idle cost new
+    → TellsCall state first old past all call at c block (spot client [] (state link) noted cost) idle new
+tells-call {L = L} state turns first old past all asked_all call link at c block client noted idle cost new stay waits unlimited l =
+    let told : ComesTold (dialled l.from) l.now at (events.Told c block) client (state link) noted cost = l.comes in
+    let b : ComesBy (dialled l.from) l.now (events.Told c block) client (state link) noted cost = told.by in record {
       later = l.later;
       now = took b.mid b.frame b.step ∷ b.before;
-      over = record { from = l.from; past_is = l.past_is; on = b.on; in_a_row = l.in_a_row; hands = l.hands };
+      over = record { from = l.from; past_is = l.past_is; on = record { on = b.on; rests = tt }; in_a_row = l.in_a_row; hands = l.hands };
       results = λ was.
           let w = asked_of was l.later in
           let asked_then : asked_in w b.before ≡ Some call = b.same.asked w ∙ l.same.asked was ∙ waits was in
@@ -59,16 +60,16 @@ tells-call {L = L} state turns first old past all asked_all call link at c block
     }
 
 pub asks-over : {L : Type 0} (state : L → LinkState) (first : Start) (old : DialerState L) (past : List (Part L)) (all : List Happening) (before after : Client) (call : Call) (out : List ℕ) (link : L)
-    (replied : Bool) (cost idle : ℕ) (dialer : DialerState L)
-    → (o : Over state first old past all (spot before [] (state link) replied cost) idle dialer) → OnLink (dialled o.from) (asks before.state call ∷ all) (spot after out (state link) replied cost)
-    → Over state first old past (asks before.state call ∷ all) (spot after out (state link) replied cost) idle dialer
-asks-over state first old past all before after call out link replied cost idle dialer o on = record { from = o.from; past_is = o.past_is; on = on; in_a_row = o.in_a_row; hands = o.hands }
+    (noted : Noted) (cost idle : ℕ) (dialer : DialerState L)
+    → (o : Over state first old past all (spot before [] (state link) noted cost) idle dialer) → LiveOn (dialled o.from) (asks before.state call ∷ all) (spot after out (state link) noted cost)
+    → Over state first old past (asks before.state call ∷ all) (spot after out (state link) noted cost) idle dialer
+asks-over state first old past all before after call out link noted cost idle dialer o on = record { from = o.from; past_is = o.past_is; on = on; in_a_row = o.in_a_row; hands = o.hands }
 
 pub ends-left : {L : Type 0} (state : L → LinkState) (turns : ℕ) (first : Start) (old : DialerState L) (past : List (Part L)) (all : List Happening) (link : L) (came : Came) (end : TalkEnd)
-    (client : Client) (replied : Bool) (idle cost : ℕ) (mid new : DialerState L)
-    → LeavesLink state turns first old past all link came client replied idle cost mid → end_of came ≡ Some end → TakesBack mid link new
+    (client : Client) (noted : Noted) (idle cost : ℕ) (mid new : DialerState L)
+    → LeavesLink state turns first old past all link came client noted idle cost mid → end_of came ≡ Some end → TakesBack mid link new
     → EndsOnLink state turns first old past all end new
-ends-left {L = L} state turns first old past all link came end client replied idle cost mid new l why gives = record {
+ends-left {L = L} state turns first old past all link came end client noted idle cost mid new l why gives = record {
   later = l.later;
   now = l.now;
   same = l.same;
@@ -77,7 +78,7 @@ ends-left {L = L} state turns first old past all link came end client replied id
   came = came;
   client = client;
   link = link;
-  replied = replied;
+  noted = noted;
   cost = cost;
   comes_so = l.comes;
   why = why;
@@ -90,10 +91,10 @@ ends-left {L = L} state turns first old past all link came end client replied id
 
 -- want of memory before anything was written
 pub ends-unasked : {L : Type 0} (state : L → LinkState) (turns : ℕ) (first : Start) (old : DialerState L) (past : List (Part L)) (all : List Happening) (link : L)
-    (client : Client) (replied : Bool) (idle cost : ℕ) (mid new : DialerState L)
-    → Over state first old past all (spot client [] (state link) replied cost) idle mid → TakesBack mid link new
+    (client : Client) (noted : Noted) (idle cost : ℕ) (mid new : DialerState L)
+    → Over state first old past all (spot client [] (state link) noted cost) idle mid → TakesBack mid link new
     → EndsOnLink state turns first old past all ends.Memory new
-ends-unasked {L = L} state turns first old past all link client replied idle cost mid new o gives = record {
+ends-unasked {L = L} state turns first old past all link client noted idle cost mid new o gives = record {
   later = past;
   now = all;
   same = same_over-same past all;
@@ -102,9 +103,9 @@ ends-unasked {L = L} state turns first old past all link client replied idle cos
   came = comes.Memory;
   client = client;
   link = link;
-  replied = replied;
+  noted = noted;
   cost = cost;
-  comes_so = record { now = all; on = o.on; same = record { results = λ was. refl; asked = λ was. refl; limits = λ was. refl } };
+  comes_so = record { now = all; on = o.on.on; same = record { results = λ was. refl; asked = λ was. refl; limits = λ was. refl } };
   why = refl;
   hands = record {
     handed = gives.handed ∙ o.hands.handed;
@@ -115,40 +116,40 @@ ends-unasked {L = L} state turns first old past all link client replied idle cos
 
 -- the link is left, for the call's result or for an end
 pub answers-left : {L : Type 0} (state : L → LinkState) (turns : ℕ) (first : Start) (old : DialerState L) (past : List (Part L)) (all : List Happening) (s : ClientState) (call : Call) (link : L) (came : Came)
-    (result : Result (Answered L) TalkEnd) (client : Client) (replied : Bool) (idle cost : ℕ) (mid new : DialerState L)
-    → LeavesLink state turns first old past (asks s call ∷ all) link came client replied idle cost mid → TellsLeft mid link came result new
-    → Answers state turns first old past all s call result client replied idle cost new
-answers-left {L = L} state turns first old past all s call link came (Ok told) client replied idle cost mid new l t =
-    let l' = subst (λ (x : Came). LeavesLink state turns first old past (asks s call ∷ all) link x client replied idle cost mid) t.1 l in
-    let tells = tells-call state turns first old past all (asks s call ∷ all) call link told.at told.code told.block client replied idle cost mid (λ was. refl) (λ was. refl) (λ was. refl) l' in
-    subst (λ (x : DialerState L). TellsCall state first old past all call told.at told.code told.block (spot client [] (state told.link) replied cost) idle x) (sym t.2)
-    (subst (λ (x : L). TellsCall state first old past all call told.at told.code told.block (spot client [] (state x) replied cost) idle mid) (sym t.0) tells)
-answers-left state turns first old past all s call link came (Err end) client replied idle cost mid new l t =
-    inr (inr (ends-left state turns first old past (asks s call ∷ all) link came end client replied idle cost mid new l t.0 t.1))
+    (result : Result (Answered L) TalkEnd) (client : Client) (noted : Noted) (idle cost : ℕ) (mid new : DialerState L)
+    → LeavesLink state turns first old past (asks s call ∷ all) link came client noted idle cost mid → TellsLeft mid link came result new
+    → Answers state turns first old past all s call result client noted idle cost new
+answers-left {L = L} state turns first old past all s call link came (Ok told) client noted idle cost mid new l t =
+    let l' = subst (λ (x : Came). LeavesLink state turns first old past (asks s call ∷ all) link x client noted idle cost mid) t.1 l in
+    let tells = tells-call state turns first old past all (asks s call ∷ all) call link told.at told.code told.block client noted idle cost mid (λ was. refl) (λ was. refl) (λ was. refl) l' in
+    subst (λ (x : DialerState L). TellsCall state first old past all call told.at told.code told.block (spot client [] (state told.link) noted cost) idle x) (sym t.2)
+    (subst (λ (x : L). TellsCall state first old past all call told.at told.code told.block (spot client [] (state x) noted cost) idle mid) (sym t.0) tells)
+answers-left state turns first old past all s call link came (Err end) client noted idle cost mid new l t =
+    inr (inr (ends-left state turns first old past (asks s call ∷ all) link came end client noted idle cost mid new l t.0 t.1))
 
 pub answers-none : {L : Type 0} (state : L → LinkState) (turns : ℕ) (first : Start) (old : DialerState L) (past : List (Part L)) (all : List Happening) (s : ClientState) (call : Call) (end : TalkEnd)
-    (client : Client) (replied : Bool) (idle cost : ℕ) (new : DialerState L)
-    → LeavesNone state turns first old past (asks s call ∷ all) end cost new → Answers state turns first old past all s call (Err end) client replied idle cost new
-answers-none state turns first old past all s call end client replied idle cost new l = inr (inl l)
+    (client : Client) (noted : Noted) (idle cost : ℕ) (new : DialerState L)
+    → LeavesNone state turns first old past (asks s call ∷ all) end cost new → Answers state turns first old past all s call (Err end) client noted idle cost new
+answers-none state turns first old past all s call end client noted idle cost new l = inr (inl l)
 
 -- the call's request is to be written
 pub asks-call : {L : Type 0} (state : L → LinkState) (first : Start) (old : DialerState L) (past : List (Part L)) (all : List Happening) (before after : Client) (call : Call) (none out : List ℕ) (link : L)
-    (replied : Bool) (cost idle : ℕ) (dialer : DialerState L)
-    → Over state first old past all (spot before [] (state link) replied cost) idle dialer → IsReady before.state → none ≡ []
+    (noted : Noted) (cost idle : ℕ) (dialer : DialerState L)
+    → Over state first old past all (spot before [] (state link) noted cost) idle dialer → IsReady before.state → none ≡ []
     → after ≡ record before { state = asked before.state call } → out ≡ none ++ canonical_frame (call_frame before.state.next_id call)
-    → Over state first old past (asks before.state call ∷ all) (spot after out (state link) replied cost) idle dialer
-asks-call state first old past all before after call none out link replied cost idle dialer o ready empty is sends =
-    asks-over state first old past all before after call out link replied cost idle dialer o
-    (on-asks (dialled o.from) all before after call [] out (state link) replied cost o.on ready is (sends ∙ ap (λ (x : List ℕ). x ++ canonical_frame (call_frame before.state.next_id call)) empty))
+    → Over state first old past (asks before.state call ∷ all) (spot after out (state link) noted cost) idle dialer
+asks-call state first old past all before after call none out link noted cost idle dialer o ready empty is sends =
+    asks-over state first old past all before after call out link noted cost idle dialer o
+    (on-asks (dialled o.from) all before after call out (state link) noted cost o.on ready is (sends ∙ ap (λ (x : List ℕ). x ++ canonical_frame (call_frame before.state.next_id call)) empty))
 
 pub opens-left : {L : Type 0} (state : L → LinkState) (turns : ℕ) (first : Start) (old : DialerState L) (past : List (Part L)) (link : L) (came : Came) (result : Result L TalkEnd)
-    (client : Client) (replied : Bool) (idle cost : ℕ) (mid new : DialerState L)
-    → LeavesLink state turns first old past [] link came client replied idle cost mid → OpensLeft mid link came result new
-    → Connects state turns first old past result client replied idle cost new
-opens-left {L = L} state turns first old past link came (Ok same) client replied idle cost mid new l t =
-    let b : ComesBy (dialled l.from) l.now events.Ready client (state link) replied cost = subst (λ (x : Came). CameOn (dialled l.from) turns l.now x client (state link) replied cost) t.1 l.comes in
-    let over : Over state first old l.later (took b.mid b.frame b.step ∷ b.before) (spot client [] (state link) replied cost) idle mid =
-    record { from = l.from; past_is = l.past_is; on = b.on; in_a_row = l.in_a_row; hands = l.hands } in record {
+    (client : Client) (noted : Noted) (idle cost : ℕ) (mid new : DialerState L)
+    → LeavesLink state turns first old past [] link came client noted idle cost mid → OpensLeft mid link came result new
+    → Connects state turns first old past result client noted idle cost new
+opens-left {L = L} state turns first old past link came (Ok same) client noted idle cost mid new l t =
+    let b : ComesBy (dialled l.from) l.now events.Ready client (state link) noted cost = subst (λ (x : Came). CameOn (dialled l.from) turns l.now x client (state link) noted cost) t.1 l.comes in
+    let over : Over state first old l.later (took b.mid b.frame b.step ∷ b.before) (spot client [] (state link) noted cost) idle mid =
+    record { from = l.from; past_is = l.past_is; on = record { on = b.on; rests = tt }; in_a_row = l.in_a_row; hands = l.hands } in record {
       later = l.later;
       now = took b.mid b.frame b.step ∷ b.before;
       same = record {
@@ -156,11 +157,11 @@ opens-left {L = L} state turns first old past link came (Ok same) client replied
         asked = λ was. ap (λ (e : Event). asked_by (asked_in (asked_of was l.later) b.before) e) b.is ∙ b.same.asked (asked_of was l.later) ∙ l.same.asked was;
         limits = λ was. b.same.limits (limits_of was l.later) ∙ l.same.limits was;
       };
-      over = subst (λ (x : DialerState L). Over state first old l.later (took b.mid b.frame b.step ∷ b.before) (spot client [] (state same) replied cost) idle x) (sym t.2)
-          (subst (λ (x : L). Over state first old l.later (took b.mid b.frame b.step ∷ b.before) (spot client [] (state x) replied cost) idle mid) (sym t.0) over);
+      over = subst (λ (x : DialerState L). Over state first old l.later (took b.mid b.frame b.step ∷ b.before) (spot client [] (state same) noted cost) idle x) (sym t.2)
+          (subst (λ (x : L). Over state first old l.later (took b.mid b.frame b.step ∷ b.before) (spot client [] (state x) noted cost) idle mid) (sym t.0) over);
     }
-opens-left state turns first old past link came (Err end) client replied idle cost mid new l t =
-    inr (ends-left state turns first old past [] link came end client replied idle cost mid new l t.0 t.1)
+opens-left state turns first old past link came (Err end) client noted idle cost mid new l t =
+    inr (ends-left state turns first old past [] link came end client noted idle cost mid new l t.0 t.1)
 
 pub none-now : {L : Type 0} (state : L → LinkState) (turns : ℕ) (first : Start) (old : DialerState L) (past : List (Part L)) (end : TalkEnd) (cost : ℕ) (new : DialerState L)
     → HasNone state turns first old past end cost new → EndsTalk state turns first old past [] end cost new
@@ -172,12 +173,12 @@ none-later state turns first old past end cost new h = inl h
 
 -- the links end behind a call
 pub asks-ends : {L : Type 0} (state : L → LinkState) (turns : ℕ) (first : Start) (old : DialerState L) (past : List (Part L)) (all : List Happening) (s : ClientState) (call : Call) (had has : Option L) (link : L) (end : TalkEnd)
-    (before client : Client) (was replied : Bool) (was_idle idle was_cost cost : ℕ) (mid new : DialerState L)
+    (before client : Client) (was noted : Noted) (was_idle idle was_cost cost : ℕ) (mid new : DialerState L)
     → TalkAt state first old past all had before was was_idle was_cost mid → had ≡ Some link → has ≡ None
-    → (Over state first old past all (spot before [] (state link) was was_cost) was_idle mid → Answers state turns first old past all s call (Err end) client replied idle cost new)
-    → AsksTalk state turns first old past all s call (Err end) has client replied idle cost new
-asks-ends {L = L} state turns first old past all s call had has link end before client was replied was_idle idle was_cost cost mid new at is none f =
-    subst (λ (x : Option L). AsksTalk state turns first old past all s call (Err end) x client replied idle cost new) (sym none)
+    → (Over state first old past all (spot before [] (state link) was was_cost) was_idle mid → Answers state turns first old past all s call (Err end) client noted idle cost new)
+    → AsksTalk state turns first old past all s call (Err end) has client noted idle cost new
+asks-ends {L = L} state turns first old past all s call had has link end before client was noted was_idle idle was_cost cost mid new at is none f =
+    subst (λ (x : Option L). AsksTalk state turns first old past all s call (Err end) x client noted idle cost new) (sym none)
     (f (subst (λ (x : Option L). TalkAt state first old past all x before was was_idle was_cost mid) is at))
 
 -- all dialled links are handed back
@@ -189,46 +190,27 @@ hands-all {L = L} old mid new past link h gives = record {
 }
 
 -- CloseSession was written, or a first part of it
-pub closes-link : {L : Type 0} (state : L → LinkState) (first : Start) (old : DialerState L) (past : List (Part L)) (all : List Happening) (c : Client) (none out : List ℕ) (link after : L) (replied sent : Bool) (idle cost : ℕ)
-    (mid new : DialerState L) → Over state first old past all (spot c [] (state link) replied cost) idle mid → none ≡ [] → out ≡ none ++ canonical_frame close_session_frame → SendsAll (state link) out sent (state after)
+pub closes-link : {L : Type 0} (state : L → LinkState) (first : Start) (old : DialerState L) (past : List (Part L)) (all : List Happening) (c : Client) (none out : List ℕ) (link after : L) (noted : Noted) (sent : Bool) (idle cost : ℕ)
+    (mid new : DialerState L) → Over state first old past all (spot c [] (state link) noted cost) idle mid → none ≡ [] → out ≡ none ++ canonical_frame close_session_frame → SendsAll (state link) out sent (state after)
     → TakesBack mid after new → ClosesLink state first old past all new
-closes-link state first old past all c none out link after replied true idle cost mid new o empty is s gives =
-    let on : OnLink (dialled o.from) (closes ∷ all) (spot c out (state link) replied cost) =
-    on-closes (dialled o.from) all c [] out (state link) replied cost o.on (is ∙ ap (λ (x : List ℕ). x ++ canonical_frame close_session_frame) empty) in
-    record {
-      from = o.from;
-      past_is = o.past_is;
-      client = c;
-      link = after;
-      lost = [];
-      replied = replied;
-      cost = cost;
-      on = on-sent (dialled o.from) (closes ∷ all) c out (state link) (state after) replied cost on s;
-      lacks = λ some. omega (arith, some);
-      hands = hands-all old mid new past after o.hands gives;
-    }
-closes-link state first old past all c none out link after replied false idle cost mid new o empty is s gives =
-    let on : OnLink (dialled o.from) (closes ∷ all) (spot c out (state link) replied cost) =
-    on-closes (dialled o.from) all c [] out (state link) replied cost o.on (is ∙ ap (λ (x : List ℕ). x ++ canonical_frame close_session_frame) empty) in
-    record {
-      from = o.from;
-      past_is = o.past_is;
-      client = c;
-      link = after;
-      lost = s.lost;
-      replied = replied;
-      cost = cost;
-      on = on-part (dialled o.from) (closes ∷ all) c out (state link) (state after) replied cost on s;
-      lacks = λ some. unsent-counted (state link) (state after) out s;
-      hands = hands-all old mid new past after o.hands gives;
-    }
-
-pub leaves-open : {L : Type 0} (state : L → LinkState) (first : Start) (old : DialerState L) (past : List (Part L)) (all : List Happening) (c : Client) (link : L) (replied : Bool) (idle cost : ℕ)
-    (mid new : DialerState L) → Over state first old past all (spot c [] (state link) replied cost) idle mid → TakesBack mid link new → LeavesOpen state first old past all new
-leaves-open state first old past all c link replied idle cost mid new o gives = record {
+closes-link state first old past all c none out link after noted sent idle cost mid new o empty is s gives = record {
   from = o.from;
   past_is = o.past_is;
-  here = spot c [] (state link) replied cost;
+  here = spot c [] (state link) noted cost;
+  on = o.on;
+  all_written = refl;
+  sent = sent;
+  link = after;
+  closes = subst (λ (x : List ℕ). SendsAll (state link) x sent (state after)) (is ∙ ap (λ (x : List ℕ). x ++ canonical_frame close_session_frame) empty) s;
+  hands = hands-all old mid new past after o.hands gives;
+}
+
+pub leaves-open : {L : Type 0} (state : L → LinkState) (first : Start) (old : DialerState L) (past : List (Part L)) (all : List Happening) (c : Client) (link : L) (noted : Noted) (idle cost : ℕ)
+    (mid new : DialerState L) → Over state first old past all (spot c [] (state link) noted cost) idle mid → TakesBack mid link new → LeavesOpen state first old past all new
+leaves-open state first old past all c link noted idle cost mid new o gives = record {
+  from = o.from;
+  past_is = o.past_is;
+  here = spot c [] (state link) noted cost;
   link = link;
   at_link = refl;
   on = o.on;

@@ -1,5 +1,5 @@
 -- A client's links over a dialer, the newest first (this profile).
-use Rattle.std.specs.Prelude.{◌≡◌, ℕ, ◌+◌, ◌<◌, ◌≤◌, Bool, List, [], ◌∷◌, ◌++◌, length, Option, if◌then◌else◌}
+use Rattle.std.specs.Prelude.{◌≡◌, ℕ, ◌+◌, ◌≤◌, List, [], ◌∷◌, ◌++◌, length, Option, if◌then◌else◌}
 use Rattle.afp_outside.specs.ends.Link.{LinkState}
 use Rattle.afp_calls_grammar.specs.declared.grammar.call.Call.{Call}
 use Rattle.afp_client.specs.session.Run.{Result}
@@ -7,17 +7,18 @@ use Rattle.afp_client.specs.session.State.{Client}
 use Rattle.afp_client.specs.session.Takes.{broken}
 use Rattle.afp_outside.specs.ends.Dialer.{DialerState}
 use Rattle.afp_client.specs.links.History.{Happening, asked_in, limits_in, results_in}
+use Rattle.afp_client.specs.declared.links.noted.Noted.{Noted}
 use Rattle.afp_client.specs.declared.links.talk.Limit.{Limit}
-use Rattle.afp_client.specs.links.OnLink.{Start, Spot, spot, OnLink, Broke}
+use Rattle.afp_client.specs.links.OnLink.{Start, Spot, spot, OnLink, LiveOn, Broke}
 
--- A link that was dialled and handed back: the link as it was then, what happened on it, the client and what was spent then, whether a
--- command got a reply on it, and the end of what was to be written that was not.
+-- A link that was dialled and handed back: the link as it was then, what happened on it, the client, what is noted of it and what was spent
+-- then, and the end of what was to be written that was not.
 pub record Part (L : Type 0) : Type 0 where
   pub link : L
   pub all : List Happening
   pub to : Client
   pub lost : List ℕ
-  pub replied : Bool
+  pub noted : Noted
   pub cost : ℕ
 
 -- a link that is dialled costs 1
@@ -26,13 +27,12 @@ dialled from = record { state = from.state; spent = from.spent + 1; idle = from.
 
 -- where the next link begins, behind a part that began there
 abbrev pub behind : {L : Type 0} → Start → Part L → Start
-behind from p = record { state = broken p.to.state; spent = p.cost; idle = if p.replied then 0 else (from.idle + 1); limits = limits_in from.limits p.all }
+behind from p = record { state = broken p.to.state; spent = p.cost; idle = if p.noted.replied then 0 else (from.idle + 1); limits = limits_in from.limits p.all }
 
--- This happened on the link, and it broke; what was not written is lost only where a write failed.
+-- This happened on the link, and it broke.
 pub record WasLink {L : Type 0} (state : L → LinkState) (from : Start) (p : Part L) : Type 0 where
-  pub on : OnLink (dialled from) p.all (spot p.to p.lost (state p.link) p.replied p.cost)
-  pub broke : Broke (dialled from) p.all (state p.link)
-  pub lacks : 0 < length p.lost → 0 < (state p.link).write_faults
+  pub on : OnLink (dialled from) p.all (spot p.to p.lost (state p.link) p.noted p.cost)
+  pub broke : Broke on.began p.all p.lost (state p.link)
 
 -- The links so far all broke, and each began where the client stood behind the one before it.
 abbrev pub Past : {L : Type 0} → (L → LinkState) → Start → List (Part L) → Start → Type 0
@@ -83,11 +83,11 @@ pub record Between {L : Type 0} (state : L → LinkState) (first : Start) (diale
   pub most : at.idle ≤ 8
   pub hands : Hands dialer (length past) (links_of past) after
 
--- On a link.
+-- On a link, which goes on.
 pub record Over {L : Type 0} (state : L → LinkState) (first : Start) (dialer : DialerState L) (past : List (Part L)) (all : List Happening) (here : Spot) (idle : ℕ) (after : DialerState L) : Type 0 where
   pub from : Start
   pub past_is : Past state first past from
-  pub on : OnLink (dialled from) all here
+  pub on : LiveOn (dialled from) all here
   pub in_a_row : idle ≡ from.idle
   pub hands : Hands dialer (length past + 1) (links_of past) after
 

@@ -1,19 +1,21 @@
 -- What a client is told over its links, and why they end (this profile).
-use Rattle.std.specs.Prelude.{◌≡◌, ◌⊎◌, ℕ, ◌+◌, ◌<◌, Bool, List, [], ◌∷◌, ◌++◌, length, Option, Some, None, Result, Ok, Err}
+use Rattle.std.specs.Prelude.{◌≡◌, ◌⊎◌, ℕ, ◌+◌, Bool, List, [], ◌∷◌, ◌++◌, length, Option, Some, None, Result, Ok, Err}
 use Rattle.afp_base.specs.declared.bytes.OutOfMemory.{OutOfMemory}
 use Rattle.afp_base.specs.declared.code.Code.{Code}
 use Rattle.afp_outside.specs.ends.Link.{LinkState}
 use Rattle.afp_calls_grammar.specs.declared.grammar.call.Call.{Call}
-use Rattle.dsi_frame.specs.Frame.{Frame}
+use Rattle.afp_outside.specs.ends.Whole.{SendsAll}
+use Rattle.dsi_frame.specs.Frame.{Frame, canonical_frame}
 use Rattle.afp_client.specs.session.Takes as S
 use Rattle.afp_client.specs.session.State.{Client, ClientState}
 use Rattle.afp_outside.specs.ends.Dialer.{DialerState, TakesBack}
-use Rattle.afp_client.specs.links.History.{Happening, asks, closes, took}
-use Rattle.afp_client.specs.links.OnLink.{Start, Spot, spot, OnLink}
+use Rattle.afp_client.specs.links.History.{Happening, asks, close_session_frame, took}
+use Rattle.afp_client.specs.links.OnLink.{Start, Spot, spot, LiveOn}
 use Rattle.afp_client.specs.links.Links.{Part, Past, Hands, Between, Over, SameOver, dialled, links_of, all_limits, all_results}
+use Rattle.afp_client.specs.declared.links.noted.Noted.{Noted}
 use Rattle.afp_client.specs.declared.links.talk.Limit.{Limit}
-use Rattle.afp_client.specs.links.lemma.Coming.{CameOn, StandsAt}
-use Rattle.afp_client.specs.links.lemma.Rejoining.{LeavesNone}
+use Rattle.afp_client.specs.links.Coming.{CameOn, StandsAt}
+use Rattle.afp_client.specs.links.Ends.{LeavesNone}
 use Rattle.afp_client.specs.declared.links.came.Came.{Came}
 use Rattle.afp_client.specs.declared.links.came.Came.TheVariants as comes
 use Rattle.afp_client.specs.declared.links.links.Answered.{Answered}
@@ -42,9 +44,9 @@ pub record EndsOnLink {L : Type 0} (state : L → LinkState) (turns : ℕ) (firs
   pub came : Came
   pub client : Client
   pub link : L
-  pub replied : Bool
+  pub noted : Noted
   pub cost : ℕ
-  pub comes_so : CameOn (dialled from) turns now came client (state link) replied cost
+  pub comes_so : CameOn (dialled from) turns now came client (state link) noted cost
   pub why : end_of came ≡ Some end
   pub hands : Hands old (length later + 1) (links_of later ++ link ∷ []) new
 
@@ -68,14 +70,14 @@ pub record TellsCall {L : Type 0} (state : L → LinkState) (first : Start) (old
   pub behind : IsBehind before now
   pub stands : StandsAt before at
 
--- It got no result: the links ended, behind the call's request or before it was written.
+-- It got no result: the links ended behind the call's request; or there was no memory for it, and it was not written.
 abbrev pub TellsEnd : {L : Type 0} → (L → LinkState) → ℕ → Start → DialerState L → List (Part L) → List Happening → Happening → TalkEnd → ℕ → DialerState L → Type 0
 TellsEnd state turns first old past all asked end cost new =
-    EndsTalk state turns first old past all end cost new ⊎ EndsTalk state turns first old past (asked ∷ all) end cost new
+    ((end ≡ ends.Memory) × EndsTalk state turns first old past all end cost new) ⊎ EndsTalk state turns first old past (asked ∷ all) end cost new
 
-abbrev pub Answers : {L : Type 0} → (L → LinkState) → ℕ → Start → DialerState L → List (Part L) → List Happening → ClientState → Call → Result (Answered L) TalkEnd → Client → Bool → ℕ → ℕ → DialerState L → Type 0
-Answers state turns first old past all s call (Ok told) c replied idle cost new = TellsCall state first old past all call told.at told.code told.block (spot c [] (state told.link) replied cost) idle new
-Answers state turns first old past all s call (Err end) c replied idle cost new = TellsEnd state turns first old past all (asks s call) end cost new
+abbrev pub Answers : {L : Type 0} → (L → LinkState) → ℕ → Start → DialerState L → List (Part L) → List Happening → ClientState → Call → Result (Answered L) TalkEnd → Client → Noted → ℕ → ℕ → DialerState L → Type 0
+Answers state turns first old past all s call (Ok told) c noted idle cost new = TellsCall state first old past all call told.at told.code told.block (spot c [] (state told.link) noted cost) idle new
+Answers state turns first old past all s call (Err end) c noted idle cost new = TellsEnd state turns first old past all (asks s call) end cost new
 
 -- what a link that is left comes to
 abbrev pub TellsLeft : {L : Type 0} → DialerState L → L → Came → Result (Answered L) TalkEnd → DialerState L → Type 0
@@ -94,40 +96,39 @@ pub record Opens {L : Type 0} (state : L → LinkState) (first : Start) (old : D
   pub same : SameOver past [] later now
   pub over : Over state first old later now here idle new
 
-abbrev pub Connects : {L : Type 0} → (L → LinkState) → ℕ → Start → DialerState L → List (Part L) → Result L TalkEnd → Client → Bool → ℕ → ℕ → DialerState L → Type 0
-Connects state turns first old past (Ok link) c replied idle cost new = Opens state first old past (spot c [] (state link) replied cost) idle new
-Connects state turns first old past (Err end) c replied idle cost new = EndsTalk state turns first old past [] end cost new
+abbrev pub Connects : {L : Type 0} → (L → LinkState) → ℕ → Start → DialerState L → List (Part L) → Result L TalkEnd → Client → Noted → ℕ → ℕ → DialerState L → Type 0
+Connects state turns first old past (Ok link) c noted idle cost new = Opens state first old past (spot c [] (state link) noted cost) idle new
+Connects state turns first old past (Err end) c noted idle cost new = EndsTalk state turns first old past [] end cost new
 
 -- where a client stands: on a link, or between two
-abbrev pub TalkAt : {L : Type 0} → (L → LinkState) → Start → DialerState L → List (Part L) → List Happening → Option L → Client → Bool → ℕ → ℕ → DialerState L → Type 0
-TalkAt state first old past all (Some link) c replied idle cost dialer = Over state first old past all (spot c [] (state link) replied cost) idle dialer
-TalkAt state first old past all None c replied idle cost dialer = (all ≡ []) × Between state first old past c idle cost dialer
+abbrev pub TalkAt : {L : Type 0} → (L → LinkState) → Start → DialerState L → List (Part L) → List Happening → Option L → Client → Noted → ℕ → ℕ → DialerState L → Type 0
+TalkAt state first old past all (Some link) c noted idle cost dialer = Over state first old past all (spot c [] (state link) noted cost) idle dialer
+TalkAt state first old past all None c noted idle cost dialer = (all ≡ []) × Between state first old past c idle cost dialer
 
 -- The call was told, and the link is there; or there is none any more.
-abbrev pub AsksTalk : {L : Type 0} → (L → LinkState) → ℕ → Start → DialerState L → List (Part L) → List Happening → ClientState → Call → Result Told TalkEnd → Option L → Client → Bool → ℕ → ℕ → DialerState L → Type 0
-AsksTalk state turns first old past all s call (Ok told) (Some link) c replied idle cost new = TellsCall state first old past all call told.at told.code told.block (spot c [] (state link) replied cost) idle new
-AsksTalk state turns first old past all s call (Ok told) None c replied idle cost new = ⊥
-AsksTalk state turns first old past all s call (Err end) (Some link) c replied idle cost new = ⊥
-AsksTalk state turns first old past all s call (Err end) None c replied idle cost new = TellsEnd state turns first old past all (asks s call) end cost new
+abbrev pub AsksTalk : {L : Type 0} → (L → LinkState) → ℕ → Start → DialerState L → List (Part L) → List Happening → ClientState → Call → Result Told TalkEnd → Option L → Client → Noted → ℕ → ℕ → DialerState L → Type 0
+AsksTalk state turns first old past all s call (Ok told) (Some link) c noted idle cost new = TellsCall state first old past all call told.at told.code told.block (spot c [] (state link) noted cost) idle new
+AsksTalk state turns first old past all s call (Ok told) None c noted idle cost new = ⊥
+AsksTalk state turns first old past all s call (Err end) (Some link) c noted idle cost new = ⊥
+AsksTalk state turns first old past all s call (Err end) None c noted idle cost new = TellsEnd state turns first old past all (asks s call) end cost new
 
 -- A link was opened, or there is none.
-abbrev pub OpensTalk : {L : Type 0} → (L → LinkState) → ℕ → Start → DialerState L → List (Part L) → Result (Unit {0}) TalkEnd → Option L → Client → Bool → ℕ → ℕ → DialerState L → Type 0
-OpensTalk state turns first old past (Ok done) (Some link) c replied idle cost new = Opens state first old past (spot c [] (state link) replied cost) idle new
-OpensTalk state turns first old past (Ok done) None c replied idle cost new = ⊥
-OpensTalk state turns first old past (Err end) (Some link) c replied idle cost new = ⊥
-OpensTalk state turns first old past (Err end) None c replied idle cost new = EndsTalk state turns first old past [] end cost new
+abbrev pub OpensTalk : {L : Type 0} → (L → LinkState) → ℕ → Start → DialerState L → List (Part L) → Result (Unit {0}) TalkEnd → Option L → Client → Noted → ℕ → ℕ → DialerState L → Type 0
+OpensTalk state turns first old past (Ok done) (Some link) c noted idle cost new = Opens state first old past (spot c [] (state link) noted cost) idle new
+OpensTalk state turns first old past (Ok done) None c noted idle cost new = ⊥
+OpensTalk state turns first old past (Err end) (Some link) c noted idle cost new = ⊥
+OpensTalk state turns first old past (Err end) None c noted idle cost new = EndsTalk state turns first old past [] end cost new
 
--- CloseSession was written last, and the link is handed back with all others; what was not written of it is lost only where a write failed.
+-- CloseSession was written last, or a first part of it where a write failed; and the link is handed back with all others.
 pub record ClosesLink {L : Type 0} (state : L → LinkState) (first : Start) (old : DialerState L) (past : List (Part L)) (all : List Happening) (new : DialerState L) : Type 0 where
   pub from : Start
   pub past_is : Past state first past from
-  pub client : Client
+  pub here : Spot
+  pub on : LiveOn (dialled from) all here
+  pub all_written : here.out ≡ []
+  pub sent : Bool
   pub link : L
-  pub lost : List ℕ
-  pub replied : Bool
-  pub cost : ℕ
-  pub on : OnLink (dialled from) (closes ∷ all) (spot client lost (state link) replied cost)
-  pub lacks : 0 < length lost → 0 < (state link).write_faults
+  pub closes : SendsAll here.link (canonical_frame close_session_frame) sent (state link)
   pub hands : Hands old (length past + 1) (links_of past ++ link ∷ []) new
 
 -- And where there was no memory, the link was left as it was.
@@ -137,7 +138,7 @@ pub record LeavesOpen {L : Type 0} (state : L → LinkState) (first : Start) (ol
   pub here : Spot
   pub link : L
   pub at_link : here.link ≡ state link
-  pub on : OnLink (dialled from) all here
+  pub on : LiveOn (dialled from) all here
   pub hands : Hands old (length past + 1) (links_of past ++ link ∷ []) new
 
 abbrev pub ClosesTalk : {L : Type 0} → (L → LinkState) → Start → DialerState L → List (Part L) → List Happening → Result (Unit {0}) OutOfMemory → DialerState L → Type 0

@@ -1,5 +1,5 @@
 //! Links over a dialer.
-ghost use Rattle.std.specs.Prelude.{◌≡◌, ◌+◌, ◌<◌, ◌≤◌, ◌^◌, ◌||◌, Bool, true, false, OnOk, OnErr, IfOk, IsTrue, ◌↔◌, ◌≢◌, IfSome, Option, Some, None, [], ◌∷◌, ◌++◌, List, ℕ, Result, length, if◌then◌else◌};
+ghost use Rattle.std.specs.Prelude.{◌≡◌, ◌+◌, ◌<◌, ◌≤◌, ◌^◌, true, false, OnOk, OnErr, IfOk, IsTrue, ◌↔◌, ◌≢◌, IfSome, Option, Some, None, [], ◌∷◌, ◌++◌, List, ℕ, Result, length, if◌then◌else◌};
 ghost use Rattle.afp_base.specs.Limits.{payload_limit};
 ghost use Rattle.afp_base.specs.declared.code.Code.{Code};
 ghost use Rattle.afp_calls_grammar.specs.grammar.Call.{IsSpellable, canonical_call, canonical_piece};
@@ -7,13 +7,15 @@ ghost use Rattle.afp_client.specs.session.State.{Client, IsReady, is_lost, is_op
 ghost use Rattle.afp_client.specs.session.Takes.{begun, broken};
 ghost use Rattle.afp_outside.specs.ends.Dialer.{DialerState, TakesBack};
 ghost use Rattle.afp_client.specs.links.History.{Happening, allowed};
-ghost use Rattle.afp_client.specs.links.OnLink.{Start, OnLink, spot};
+ghost use Rattle.afp_client.specs.links.OnLink.{Start, spot};
+ghost use Rattle.afp_client.specs.declared.links.noted.Noted.{Noted};
 ghost use Rattle.afp_client.specs.links.Links.{Part, Between, Over, all_limits, limits_of};
-ghost use Rattle.afp_client.specs.links.lemma.Coming.{CameOn, BreaksLink, OpensOn};
+ghost use Rattle.afp_client.specs.links.lemma.Coming.{OpensOn};
 ghost use Rattle.afp_client.specs.links.lemma.Rejoining.{Dialled, Rejoins, Leaves};
 ghost use Rattle.afp_client.specs.links.Talk.{end_of, Answers, Connects, OpensLeft, TellsLeft, ClosesTalk, LeavesOpen};
 
 use crate::links::came::Came;
+use crate::links::noted::Noted;
 use crate::links::round::{await_sent, put_close};
 use crate::links::send::flush;
 use crate::session::ClientCore;
@@ -97,7 +99,7 @@ fn rejoin<D: Dialer>(
     core: &mut ClientCore,
     dialer: &mut D,
     out: &mut Bytes,
-    pulse: &mut Pulse,
+    noted: &mut Noted,
     idle: u64,
     turns: u64,
     cost: &mut u64,
@@ -109,13 +111,16 @@ fn rejoin<D: Dialer>(
     ensures grows { OnOk result ((cost.new ≡ cost.old + 1) × (cost.old < turns)) }
     ensures begins { OnOk result (core.new.state ≡ begun core.old.state) }
     ensures rejoins { (first : Start) (old : DialerState D.Link) (past : List (Part D.Link)) → turns ≡ allowed (limits_of first.limits past) → Between D.Link.link_state first old past core.old idle cost.old (D.dialer_state dialer.old)
-        → Rejoins D.Link.link_state turns first old past result core.new out.new idle cost.new (D.dialer_state dialer.new) }
+        → Rejoins D.Link.link_state turns first old past result core.new out.new noted.new idle cost.new (D.dialer_state dialer.new) }
 {
     match dial_next(dialer, idle, turns, cost) {
         Err(end) => Err(end),
         Ok(link) => match core.start(out) {
             Ok(()) => {
-                *pulse = Pulse::new(link.now());
+                *noted = Noted {
+                    pulse: Pulse::new(link.now()),
+                    replied: false,
+                };
                 Ok(link)
             }
             Err(_) => {
@@ -139,10 +144,9 @@ fn await_links<D: Dialer>(
     dialer: &mut D,
     link: D::Link,
     out: &mut Bytes,
-    pulse: &mut Pulse,
+    noted: &mut Noted,
     room: &mut [u8],
     opening: bool,
-    replied: &mut bool,
     idle: &mut u64,
     turns: u64,
     cost: &mut u64,
@@ -162,20 +166,17 @@ fn await_links<D: Dialer>(
     ensures fits { OnOk result (core.new.held.place + length core.new.held.rest ≤ cost.new) }
     ensures opens { opening ≡ true → IfOk result (λ left. OpensOn core.old.state left.came core.new.state) }
     ensures leaves { (first : Start) (old : DialerState D.Link) (past : List (Part D.Link)) (all : List Happening) → turns ≡ allowed (all_limits first.limits past all)
-        → Over D.Link.link_state first old past all (spot core.old out.old (D.Link.link_state link) replied.old cost.old) idle.old (D.dialer_state dialer.old)
-        → Leaves D.Link.link_state turns first old past all result core.new replied.new idle.new cost.new (D.dialer_state dialer.new) }
+        → Over D.Link.link_state first old past all (spot core.old out.old (D.Link.link_state link) noted.old cost.old) idle.old (D.dialer_state dialer.old)
+        → Leaves D.Link.link_state turns first old past all result core.new noted.new idle.new cost.new (D.dialer_state dialer.new) }
 {
     let mut link = link;
     loop {
-        let came = await_sent(
-            core, &mut link, out, pulse, room, opening, replied, turns, cost,
-        );
+        let came = await_sent(core, &mut link, out, noted, room, opening, turns, cost);
         if !is_break(&came) {
             return Ok(Left { link, came });
         }
-        break_link(core, dialer, link, *replied, idle);
-        *replied = false;
-        match rejoin(core, dialer, out, pulse, *idle, turns, cost) {
+        break_link(core, dialer, link, noted.replied, idle);
+        match rejoin(core, dialer, out, noted, *idle, turns, cost) {
             Ok(next) => link = next,
             Err(end) => return Err(end),
         }
@@ -241,9 +242,8 @@ pub(crate) fn ask_over<D: Dialer>(
     link: D::Link,
     call: &Call,
     out: &mut Bytes,
-    pulse: &mut Pulse,
+    noted: &mut Noted,
     room: &mut [u8],
-    replied: &mut bool,
     idle: &mut u64,
     turns: u64,
     cost: &mut u64,
@@ -263,8 +263,8 @@ pub(crate) fn ask_over<D: Dialer>(
     ensures fits { OnOk result (core.new.held.place + length core.new.held.rest ≤ cost.new) }
     ensures ready { OnOk result (IsReady core.new.state) }
     ensures answers { (first : Start) (old : DialerState D.Link) (past : List (Part D.Link)) (all : List Happening) → turns ≡ allowed (all_limits first.limits past all)
-        → Over D.Link.link_state first old past all (spot core.old [] (D.Link.link_state link) replied.old cost.old) idle.old (D.dialer_state dialer.old)
-        → Answers D.Link.link_state turns first old past all core.old.state call.now result core.new replied.new idle.new cost.new (D.dialer_state dialer.new) }
+        → Over D.Link.link_state first old past all (spot core.old [] (D.Link.link_state link) noted.old cost.old) idle.old (D.dialer_state dialer.old)
+        → Answers D.Link.link_state turns first old past all core.old.state call.now result core.new noted.new idle.new cost.new (D.dialer_state dialer.new) }
 {
     match core.ask(call, out) {
         Err(_) => {
@@ -272,7 +272,7 @@ pub(crate) fn ask_over<D: Dialer>(
             Err(TalkEnd::Memory)
         }
         Ok(()) => match await_links(
-            core, dialer, link, out, pulse, room, false, replied, idle, turns, cost,
+            core, dialer, link, out, noted, room, false, idle, turns, cost,
         ) {
             Ok(left) => told_on(dialer, left),
             Err(end) => Err(end),
@@ -298,9 +298,8 @@ pub(crate) fn connect<D: Dialer>(
     core: &mut ClientCore,
     dialer: &mut D,
     out: &mut Bytes,
-    pulse: &mut Pulse,
+    noted: &mut Noted,
     room: &mut [u8],
-    replied: &mut bool,
     idle: &mut u64,
     turns: u64,
     cost: &mut u64,
@@ -316,13 +315,12 @@ pub(crate) fn connect<D: Dialer>(
     ensures ready { OnOk result (core.old.state.waiting ≡ None → IsReady core.new.state) }
     ensures connects { (first : Start) (old : DialerState D.Link) (past : List (Part D.Link)) → turns ≡ allowed (limits_of first.limits past)
         → Between D.Link.link_state first old past core.old idle.old cost.old (D.dialer_state dialer.old)
-        → Connects D.Link.link_state turns first old past result core.new replied.new idle.new cost.new (D.dialer_state dialer.new) }
+        → Connects D.Link.link_state turns first old past result core.new noted.new idle.new cost.new (D.dialer_state dialer.new) }
 {
-    *replied = false;
-    match rejoin(core, dialer, out, pulse, *idle, turns, cost) {
+    match rejoin(core, dialer, out, noted, *idle, turns, cost) {
         Err(end) => Err(end),
         Ok(link) => match await_links(
-            core, dialer, link, out, pulse, room, true, replied, idle, turns, cost,
+            core, dialer, link, out, noted, room, true, idle, turns, cost,
         ) {
             Ok(left) => opened_on(dialer, left),
             Err(end) => Err(end),
@@ -335,11 +333,11 @@ pub(crate) fn close_over<D: Dialer>(
     dialer: &mut D,
     link: D::Link,
     out: &mut Bytes,
-    pulse: &mut Pulse,
+    noted: &mut Noted,
 ) -> Result<(), OutOfMemory>
     requires empty { out.old ≡ [] }
-    ensures closes { (first : Start) (old : DialerState D.Link) (past : List (Part D.Link)) (all : List Happening) (c : Client) (replied : Bool) (idle cost : ℕ)
-        → Over D.Link.link_state first old past all (spot c [] (D.Link.link_state link) replied cost) idle (D.dialer_state dialer.old)
+    ensures closes { (first : Start) (old : DialerState D.Link) (past : List (Part D.Link)) (all : List Happening) (c : Client) (noted : Noted) (idle cost : ℕ)
+        → Over D.Link.link_state first old past all (spot c [] (D.Link.link_state link) noted cost) idle (D.dialer_state dialer.old)
         → ClosesTalk D.Link.link_state first old past all result (D.dialer_state dialer.new) }
 {
     let Ok(()) = put_close(out) else {
@@ -347,15 +345,15 @@ pub(crate) fn close_over<D: Dialer>(
         return Err(OutOfMemory);
     };
     let mut link = link;
-    flush(&mut link, out, pulse);
+    flush(&mut link, out, noted);
     dialer.back(link);
     Ok(())
 }
 
 /// Leaves a link: nothing is written, and it is handed back.
 pub(crate) fn leave_over<D: Dialer>(dialer: &mut D, link: D::Link)
-    ensures leaves { (first : Start) (old : DialerState D.Link) (past : List (Part D.Link)) (all : List Happening) (c : Client) (replied : Bool) (idle cost : ℕ)
-        → Over D.Link.link_state first old past all (spot c [] (D.Link.link_state link) replied cost) idle (D.dialer_state dialer.old)
+    ensures leaves { (first : Start) (old : DialerState D.Link) (past : List (Part D.Link)) (all : List Happening) (c : Client) (noted : Noted) (idle cost : ℕ)
+        → Over D.Link.link_state first old past all (spot c [] (D.Link.link_state link) noted cost) idle (D.dialer_state dialer.old)
         → LeavesOpen D.Link.link_state first old past all (D.dialer_state dialer.new) }
 {
     dialer.back(link);

@@ -1,29 +1,32 @@
 //! One link: what comes on it until it is left.
-ghost use Rattle.std.specs.Prelude.{◌≡◌, ◌+◌, ◌<◌, ◌≤◌, ◌^◌, ◌||◌, Bool, true, false, None, ◌≢◌, [], ◌++◌, List, ℕ, length, OnOk, OnErr};
+ghost use Rattle.std.specs.Prelude.{◌≡◌, ◌+◌, ◌<◌, ◌≤◌, ◌^◌, ◌||◌, true, false, Option, None, ◌≢◌, [], ◌∷◌, ◌++◌, List, ℕ, length, OnOk, OnErr};
 ghost use Rattle.dsi_frame.specs.Buffered.{buffer_length};
 ghost use Rattle.dsi_frame.specs.Frame.{canonical_frame};
-ghost use Rattle.afp_client.specs.links.History.{Happening, allowed, limits_in, is_reply, tickle_frame, close_session_frame};
+ghost use Rattle.dsi_frame.specs.Stream.{IsUnfinished};
+ghost use Rattle.afp_client.specs.links.History.{Happening, allowed, limits_in, is_reply, tickle_frame, close_session_frame, was_quiet};
 ghost use Rattle.afp_client.specs.session.State.{Client, IsReady, is_lost, is_opened};
 ghost use Rattle.afp_base.specs.declared.code.Code.{Code};
-ghost use Rattle.afp_client.specs.links.OnLink.{Start, OnLink, spot};
+ghost use Rattle.afp_client.specs.links.Coming.{CameOn};
+ghost use Rattle.afp_client.specs.links.OnLink.{Start, OnLink, LiveOn, IsTickleDue, spot};
 ghost use Rattle.afp_client.specs.links.lemma.Reading.{ReadsMore, TakesAtMost};
-ghost use Rattle.afp_client.specs.links.lemma.Coming.{NextOn, RoundOn, CameOn, GoesOn, LivesOn, LivesNext, LivesRound, OpensOn, OpensNext, OpensRound};
+ghost use Rattle.afp_client.specs.links.lemma.Coming.{NextOn, RoundOn, LivesOn, LivesNext, LivesRound, OpensOn, OpensNext, OpensRound};
 
 use crate::links::came::{Came, Next, next_of};
+use crate::links::noted::Noted;
 use crate::links::send::flush;
 use crate::session::{ClientCore, Event};
 use afp_base::{Bytes, OutOfMemory};
 use afp_outside::{Link, ReadResult};
 use dsi_frame::{DsiCommand, Header, write_frame};
-use dsi_session::{Due, Pulse};
+use dsi_session::Due;
 
 /// Notes a reply to a command.
-fn note_reply(opened: bool, event: &Event, replied: &mut bool)
-    ensures { replied.new ≡ (is_reply opened event.now || replied.old) }
+fn note_reply(opened: bool, event: &Event, noted: &mut Noted)
+    ensures { noted.new ≡ record noted.old { replied = is_reply opened event.now || noted.old.replied } }
 {
     match event {
-        Event::Told { .. } => *replied = true,
-        Event::Step => *replied = opened || *replied,
+        Event::Told { .. } => noted.replied = true,
+        Event::Step => noted.replied = opened || noted.replied,
         _ => {}
     }
 }
@@ -33,9 +36,8 @@ fn next<L: Link>(
     core: &mut ClientCore,
     link: &mut L,
     out: &mut Bytes,
-    pulse: &mut Pulse,
+    noted: &mut Noted,
     opening: bool,
-    replied: &mut bool,
 ) -> Next
     requires live { is_lost core.old.state.stage ≡ false }
     requires unopened { opening ≡ true → is_opened core.old.state.stage ≡ false }
@@ -47,15 +49,16 @@ fn next<L: Link>(
     ensures lives { LivesNext result core.new.state }
     ensures opens { opening ≡ true → OpensNext core.old.state result core.new.state }
     ensures free { result ≡ Next.Reads → length core.new.held.rest < buffer_length }
+    ensures unfinished { result ≡ Next.Reads → IsUnfinished core.new.held.rest }
     ensures less { result ≡ Next.Goes → length core.new.held.rest < length core.old.held.rest }
-    ensures next { (start : Start) (turns : ℕ) (all : List Happening) (cost : ℕ) → OnLink start all (spot core.old [] (L.link_state link.old) replied.old cost)
-        → NextOn start turns all result core.new (L.link_state link.new) replied.new cost }
+    ensures next { (start : Start) (turns : ℕ) (all : List Happening) (cost : ℕ) → LiveOn start all (spot core.old [] (L.link_state link.old) noted.old cost)
+        → NextOn start turns all result core.new (L.link_state link.new) noted.new cost }
 {
     let opened = core.opened();
     let at = core.place();
     let event = core.event(out);
-    note_reply(opened, &event, replied);
-    if flush(link, out, pulse) {
+    note_reply(opened, &event, noted);
+    if flush(link, out, noted) {
         next_of(opening, at, event)
     } else {
         Next::Comes(Came::Broke)
@@ -67,9 +70,8 @@ fn take_events<L: Link>(
     core: &mut ClientCore,
     link: &mut L,
     out: &mut Bytes,
-    pulse: &mut Pulse,
+    noted: &mut Noted,
     opening: bool,
-    replied: &mut bool,
 ) -> Option<Came>
     requires live { is_lost core.old.state.stage ≡ false }
     requires unopened { opening ≡ true → is_opened core.old.state.stage ≡ false }
@@ -81,11 +83,12 @@ fn take_events<L: Link>(
     ensures lives { LivesRound result core.new.state }
     ensures opens { opening ≡ true → OpensRound core.old.state result core.new.state }
     ensures free { result ≡ None → length core.new.held.rest < buffer_length }
-    ensures comes { (start : Start) (turns : ℕ) (all : List Happening) (cost : ℕ) → OnLink start all (spot core.old [] (L.link_state link.old) replied.old cost)
-        → RoundOn start turns all result core.new (L.link_state link.new) replied.new cost }
+    ensures unfinished { result ≡ None → IsUnfinished core.new.held.rest }
+    ensures comes { (start : Start) (turns : ℕ) (all : List Happening) (cost : ℕ) → LiveOn start all (spot core.old [] (L.link_state link.old) noted.old cost)
+        → RoundOn start turns all result core.new (L.link_state link.new) noted.new cost }
 {
     loop {
-        match next(core, link, out, pulse, opening, replied) {
+        match next(core, link, out, noted, opening) {
             Next::Goes => {}
             Next::Reads => return None,
             Next::Comes(came) => return Some(came),
@@ -139,19 +142,19 @@ pub(crate) fn put_close(out: &mut Bytes) -> Result<(), OutOfMemory>
     write_frame(&header, &[], out)
 }
 
-/// Writes a Tickle.
-fn tickle<L: Link>(link: &mut L, out: &mut Bytes, pulse: &mut Pulse) -> Option<Came>
+/// Writes a Tickle, which is due.
+fn tickle<L: Link>(link: &mut L, out: &mut Bytes, noted: &mut Noted) -> Option<Came>
     requires empty { out.old ≡ [] }
     ensures empty { out.new ≡ [] }
     ensures opened { result ≢ Some Came.Opened }
     ensures told { (at : ℕ) (c : Code) (block : List ℕ) → result ≢ Some (Came.Told at c block) }
-    ensures comes { (start : Start) (turns : ℕ) (all : List Happening) (c : Client) (replied : Bool) (cost : ℕ) → OnLink start all (spot c [] (L.link_state link.old) replied cost)
-        → RoundOn start turns all result c (L.link_state link.new) replied cost }
+    ensures comes { (start : Start) (turns : ℕ) (all : List Happening) (c : Client) (cost : ℕ) → (on : OnLink start all (spot c [] (L.link_state link.old) noted.old cost)) → IsTickleDue on.began all
+        → RoundOn start turns all result c (L.link_state link.new) noted.new cost }
 {
     let Ok(()) = put_tickle(out) else {
         return Some(Came::Memory);
     };
-    if flush(link, out, pulse) {
+    if flush(link, out, noted) {
         None
     } else {
         Some(Came::Broke)
@@ -159,18 +162,19 @@ fn tickle<L: Link>(link: &mut L, out: &mut Bytes, pulse: &mut Pulse) -> Option<C
 }
 
 /// A quiet: a Tickle is written where it is due, and a link that is silent broke.
-fn idle<L: Link>(link: &mut L, out: &mut Bytes, pulse: &mut Pulse) -> Option<Came>
+fn idle<L: Link>(link: &mut L, out: &mut Bytes, noted: &mut Noted) -> Option<Came>
     requires empty { out.old ≡ [] }
     ensures empty { out.new ≡ [] }
     ensures opened { result ≢ Some Came.Opened }
     ensures told { (at : ℕ) (c : Code) (block : List ℕ) → result ≢ Some (Came.Told at c block) }
-    ensures comes { (start : Start) (turns : ℕ) (all : List Happening) (c : Client) (replied : Bool) (cost : ℕ) → OnLink start all (spot c [] (L.link_state link.old) replied cost)
-        → RoundOn start turns all result c (L.link_state link.new) replied cost }
+    ensures comes { (start : Start) (turns : ℕ) (before : Option (List ℕ)) (all : List Happening) (c : Client) (cost : ℕ)
+        → OnLink start (was_quiet before (L.link_state link.old).now ∷ all) (spot c [] (L.link_state link.old) noted.old cost)
+        → RoundOn start turns (was_quiet before (L.link_state link.old).now ∷ all) result c (L.link_state link.new) noted.new cost }
 {
-    pulse.note_read(link.last_read());
-    match pulse.due(link.now()) {
+    noted.pulse.note_read(link.last_read());
+    match noted.pulse.due(link.now()) {
         Due::Nothing => None,
-        Due::Tickle => tickle(link, out, pulse),
+        Due::Tickle => tickle(link, out, noted),
         Due::Silent => Some(Came::Broke),
     }
 }
@@ -180,7 +184,7 @@ fn read_round<L: Link>(
     core: &mut ClientCore,
     link: &mut L,
     out: &mut Bytes,
-    pulse: &mut Pulse,
+    noted: &mut Noted,
     room: &mut [u8],
     cost: &mut u64,
 ) -> Option<Came>
@@ -188,6 +192,7 @@ fn read_round<L: Link>(
     requires some { 0 < length room.old }
     requires small { length room.old < 2 ^ 20 }
     requires free { length core.old.held.rest < buffer_length }
+    requires unfinished { IsUnfinished core.old.held.rest }
     requires fits { core.old.held.place + length core.old.held.rest ≤ cost.old }
     requires below { cost.old < 2 ^ 63 }
     ensures empty { out.new ≡ [] }
@@ -197,9 +202,9 @@ fn read_round<L: Link>(
     ensures opened { result ≢ Some Came.Opened }
     ensures told { (at : ℕ) (c : Code) (block : List ℕ) → result ≢ Some (Came.Told at c block) }
     ensures state { core.new.state ≡ core.old.state }
-    ensures comes { (start : Start) (turns : ℕ) (all : List Happening) (replied : Bool) → cost.old < allowed (limits_in start.limits all)
-        → OnLink start all (spot core.old [] (L.link_state link.old) replied cost.old)
-        → RoundOn start turns all result core.new (L.link_state link.new) replied cost.new }
+    ensures comes { (start : Start) (turns : ℕ) (all : List Happening) → cost.old < allowed (limits_in start.limits all)
+        → LiveOn start all (spot core.old [] (L.link_state link.old) noted.old cost.old)
+        → RoundOn start turns all result core.new (L.link_state link.new) noted.new cost.new }
 {
     match read_more(core, link, room) {
         ReadResult::Got(n) => {
@@ -208,7 +213,7 @@ fn read_round<L: Link>(
         }
         ReadResult::Quiet => {
             *cost += 1;
-            idle(link, out, pulse)
+            idle(link, out, noted)
         }
         ReadResult::End => Some(Came::Broke),
         ReadResult::Failed => Some(Came::Broke),
@@ -220,10 +225,9 @@ fn await_on<L: Link>(
     core: &mut ClientCore,
     link: &mut L,
     out: &mut Bytes,
-    pulse: &mut Pulse,
+    noted: &mut Noted,
     room: &mut [u8],
     opening: bool,
-    replied: &mut bool,
     turns: u64,
     cost: &mut u64,
 ) -> Came
@@ -241,17 +245,17 @@ fn await_on<L: Link>(
     ensures ready { (at : ℕ) (c : Code) (block : List ℕ) → result ≡ Came.Told at c block → IsReady core.new.state }
     ensures lives { LivesOn result core.new.state }
     ensures opens { opening ≡ true → OpensOn core.old.state result core.new.state }
-    ensures comes { (start : Start) (all : List Happening) → turns ≡ allowed (limits_in start.limits all) → OnLink start all (spot core.old [] (L.link_state link.old) replied.old cost.old)
-        → CameOn start turns all result core.new (L.link_state link.new) replied.new cost.new }
+    ensures comes { (start : Start) (all : List Happening) → turns ≡ allowed (limits_in start.limits all) → LiveOn start all (spot core.old [] (L.link_state link.old) noted.old cost.old)
+        → CameOn start turns all result core.new (L.link_state link.new) noted.new cost.new }
 {
     loop {
-        if let Some(came) = take_events(core, link, out, pulse, opening, replied) {
+        if let Some(came) = take_events(core, link, out, noted, opening) {
             return came;
         }
         if *cost >= turns {
             return Came::Spent;
         }
-        if let Some(came) = read_round(core, link, out, pulse, room, cost) {
+        if let Some(came) = read_round(core, link, out, noted, room, cost) {
             return came;
         }
     }
@@ -262,10 +266,9 @@ pub(crate) fn await_sent<L: Link>(
     core: &mut ClientCore,
     link: &mut L,
     out: &mut Bytes,
-    pulse: &mut Pulse,
+    noted: &mut Noted,
     room: &mut [u8],
     opening: bool,
-    replied: &mut bool,
     turns: u64,
     cost: &mut u64,
 ) -> Came
@@ -282,11 +285,11 @@ pub(crate) fn await_sent<L: Link>(
     ensures ready { (at : ℕ) (c : Code) (block : List ℕ) → result ≡ Came.Told at c block → IsReady core.new.state }
     ensures lives { LivesOn result core.new.state }
     ensures opens { opening ≡ true → OpensOn core.old.state result core.new.state }
-    ensures comes { (start : Start) (all : List Happening) → turns ≡ allowed (limits_in start.limits all) → OnLink start all (spot core.old out.old (L.link_state link.old) replied.old cost.old)
-        → CameOn start turns all result core.new (L.link_state link.new) replied.new cost.new }
+    ensures comes { (start : Start) (all : List Happening) → turns ≡ allowed (limits_in start.limits all) → LiveOn start all (spot core.old out.old (L.link_state link.old) noted.old cost.old)
+        → CameOn start turns all result core.new (L.link_state link.new) noted.new cost.new }
 {
-    if flush(link, out, pulse) {
-        await_on(core, link, out, pulse, room, opening, replied, turns, cost)
+    if flush(link, out, noted) {
+        await_on(core, link, out, noted, room, opening, turns, cost)
     } else {
         Came::Broke
     }

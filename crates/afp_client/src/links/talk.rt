@@ -10,6 +10,7 @@ ghost use Rattle.afp_client.specs.links.Links.{Part, Over, all_limits, limits_of
 ghost use Rattle.afp_client.specs.links.Talk.{AsksTalk, ClosesTalk, LeavesOpen, OpensTalk, TalkAt};
 
 use crate::links::links::{Answered, TalkEnd, ask_over, close_over, connect, leave_over};
+use crate::links::noted::Noted;
 use crate::session::ClientCore;
 use afp_base::{Bytes, Code, Moment, OutOfMemory};
 use afp_calls_grammar::Call;
@@ -23,9 +24,8 @@ pub struct Talk<D: Dialer> {
     dialer: D,
     link: Option<D::Link>,
     out: Bytes,
-    pulse: Pulse,
+    noted: Noted,
     room: Vec<u8>,
-    replied: bool,
     idle: u64,
     turns: u64,
     cost: u64,
@@ -57,7 +57,7 @@ impl<D: Dialer> Talk<D> {
         now: Moment,
         turns: u64,
     ) -> Talk<D>
-        ensures stands { TalkAt D.Link.link_state (record { state = core.state; spent = 0; idle = 0; limits = (record { turns = turns; spent = 0 }) ∷ [] }) (D.dialer_state dialer) [] [] result.link result.core result.replied result.idle result.cost (D.dialer_state result.dialer) }
+        ensures stands { TalkAt D.Link.link_state (record { state = core.state; spent = 0; idle = 0; limits = (record { turns = turns; spent = 0 }) ∷ [] }) (D.dialer_state dialer) [] [] result.link result.core result.noted result.idle result.cost (D.dialer_state result.dialer) }
         ensures link { result.link ≡ None }
         ensures core { result.core ≡ core }
         ensures idle { result.idle ≡ 0 }
@@ -71,9 +71,11 @@ impl<D: Dialer> Talk<D> {
             dialer,
             link: None,
             out,
-            pulse: Pulse::new(now),
+            noted: Noted {
+                pulse: Pulse::new(now),
+                replied: false,
+            },
             room,
-            replied: false,
             idle: 0,
             turns,
             cost: 0,
@@ -103,16 +105,15 @@ impl<D: Dialer> Talk<D> {
         ensures room { length self.new.room.items ≡ length self.old.room.items }
         ensures opens { (first : Start) (old : DialerState D.Link) (past : List (Part D.Link))
             → self.old.turns ≡ allowed (limits_of first.limits past)
-            → TalkAt D.Link.link_state first old past [] self.old.link self.old.core self.old.replied self.old.idle self.old.cost (D.dialer_state self.old.dialer)
-            → OpensTalk D.Link.link_state self.old.turns first old past result self.new.link self.new.core self.new.replied self.new.idle self.new.cost (D.dialer_state self.new.dialer) }
+            → TalkAt D.Link.link_state first old past [] self.old.link self.old.core self.old.noted self.old.idle self.old.cost (D.dialer_state self.old.dialer)
+            → OpensTalk D.Link.link_state self.old.turns first old past result self.new.link self.new.core self.new.noted self.new.idle self.new.cost (D.dialer_state self.new.dialer) }
     {
         match connect(
             &mut self.core,
             &mut self.dialer,
             &mut self.out,
-            &mut self.pulse,
+            &mut self.noted,
             self.room.as_mut_slice(),
-            &mut self.replied,
             &mut self.idle,
             self.turns,
             &mut self.cost,
@@ -154,8 +155,8 @@ impl<D: Dialer> Talk<D> {
         ensures room { length self.new.room.items ≡ length self.old.room.items }
         ensures answers { (first : Start) (old : DialerState D.Link) (past : List (Part D.Link)) (all : List Happening)
             → self.old.turns ≡ allowed (all_limits first.limits past all)
-            → TalkAt D.Link.link_state first old past all self.old.link self.old.core self.old.replied self.old.idle self.old.cost (D.dialer_state self.old.dialer)
-            → AsksTalk D.Link.link_state self.old.turns first old past all self.old.core.state call.now result self.new.link self.new.core self.new.replied self.new.idle self.new.cost (D.dialer_state self.new.dialer) }
+            → TalkAt D.Link.link_state first old past all self.old.link self.old.core self.old.noted self.old.idle self.old.cost (D.dialer_state self.old.dialer)
+            → AsksTalk D.Link.link_state self.old.turns first old past all self.old.core.state call.now result self.new.link self.new.core self.new.noted self.new.idle self.new.cost (D.dialer_state self.new.dialer) }
     {
         let Some(link) = self.link.take() else {
             return Err(TalkEnd::Memory);
@@ -166,9 +167,8 @@ impl<D: Dialer> Talk<D> {
             link,
             call,
             &mut self.out,
-            &mut self.pulse,
+            &mut self.noted,
             self.room.as_mut_slice(),
-            &mut self.replied,
             &mut self.idle,
             self.turns,
             &mut self.cost,
@@ -193,13 +193,13 @@ impl<D: Dialer> Talk<D> {
         requires empty { self.old.out ≡ [] }
         ensures link { self.new.link ≡ None }
         ensures closes { (first : Start) (old : DialerState D.Link) (past : List (Part D.Link)) (all : List Happening)
-            → TalkAt D.Link.link_state first old past all self.old.link self.old.core self.old.replied self.old.idle self.old.cost (D.dialer_state self.old.dialer)
+            → TalkAt D.Link.link_state first old past all self.old.link self.old.core self.old.noted self.old.idle self.old.cost (D.dialer_state self.old.dialer)
             → ClosesTalk D.Link.link_state first old past all result (D.dialer_state self.new.dialer) }
     {
         let Some(link) = self.link.take() else {
             return Ok(());
         };
-        close_over(&mut self.dialer, link, &mut self.out, &mut self.pulse)
+        close_over(&mut self.dialer, link, &mut self.out, &mut self.noted)
     }
 
     /// Leaves the link that it has: nothing is written, and it is handed back.
@@ -208,7 +208,7 @@ impl<D: Dialer> Talk<D> {
         ensures link { self.new.link ≡ None }
         ensures turns { self.new.turns ≡ self.old.turns }
         ensures leaves { (first : Start) (old : DialerState D.Link) (past : List (Part D.Link)) (all : List Happening)
-            → TalkAt D.Link.link_state first old past all self.old.link self.old.core self.old.replied self.old.idle self.old.cost (D.dialer_state self.old.dialer)
+            → TalkAt D.Link.link_state first old past all self.old.link self.old.core self.old.noted self.old.idle self.old.cost (D.dialer_state self.old.dialer)
             → LeavesOpen D.Link.link_state first old past all (D.dialer_state self.new.dialer) }
     {
         let Some(link) = self.link.take() else {
@@ -229,8 +229,8 @@ impl<D: Dialer> Talk<D> {
     pub fn limit(&mut self, turns: u64)
         ensures same { self.new ≡ record self.old { turns = turns } }
         ensures limits { (first : Start) (old : DialerState D.Link) (past : List (Part D.Link)) (all : List Happening) → IsSome self.old.link
-            → TalkAt D.Link.link_state first old past all self.old.link self.old.core self.old.replied self.old.idle self.old.cost (D.dialer_state self.old.dialer)
-            → TalkAt D.Link.link_state first old past (limited (record { turns = turns; spent = self.old.cost }) ∷ all) self.old.link self.old.core self.old.replied self.old.idle self.old.cost (D.dialer_state self.old.dialer) }
+            → TalkAt D.Link.link_state first old past all self.old.link self.old.core self.old.noted self.old.idle self.old.cost (D.dialer_state self.old.dialer)
+            → TalkAt D.Link.link_state first old past (limited (record { turns = turns; spent = self.old.cost }) ∷ all) self.old.link self.old.core self.old.noted self.old.idle self.old.cost (D.dialer_state self.old.dialer) }
     {
         self.turns = turns;
     }

@@ -1,5 +1,5 @@
 -- Where a script's client stands over its links (this profile).
-use Rattle.std.specs.Prelude.{◌≡◌, ℕ, ◌+◌, ◌<◌, ◌≤◌, ◌^◌, Bool, List, [], ◌∷◌, ◌++◌, length, Option, Some, None, IsSome, Result, Ok, Err}
+use Rattle.std.specs.Prelude.{◌≡◌, ℕ, ◌+◌, ◌<◌, ◌≤◌, ◌^◌, List, [], ◌∷◌, ◌++◌, length, Option, Some, None, IsSome, Result, Ok, Err}
 use Rattle.afp_calls_grammar.specs.declared.grammar.call.Call.{Call}
 use Rattle.afp_client.specs.session.Run.{Result as CallResult}
 use Rattle.afp_client.specs.session.State.{Client, ClientState, IsReady}
@@ -11,7 +11,8 @@ use Rattle.afp_client.specs.links.History.{Happening, allowed, asks, cost_in, li
 use Rattle.afp_client.specs.links.Links.{Part, all_limits, all_results}
 use Rattle.afp_client.specs.links.OnLink.{Start}
 use Rattle.afp_client.specs.links.Talk.{AsksTalk, ClosesLink, EndsTalk, IsBehind, LeavesOpen, TalkAt, TellsEnd}
-use Rattle.afp_client.specs.links.lemma.Coming.{StandsAt}
+use Rattle.afp_client.specs.links.Coming.{StandsAt}
+use Rattle.afp_client.specs.declared.links.noted.Noted.{Noted}
 use Rattle.afp_client.specs.declared.links.talk.Limit.{Limit}
 use Rattle.afp_client.specs.declared.links.talk.Told.{Told}
 use Rattle.client_script_commands.specs.declared.parts.asker.Answer.{Answer}
@@ -55,10 +56,10 @@ ToldAt (x ∷ exchanges) all place = (before : List Happening) × IsBehind befor
 
 -- It has a link and can be asked; its exchanges are the results so far, and its limits those that were set, the last of which holds.
 pub record IsOpen {L : Type 0} (state : L → LinkState) (first : Start) (old : DialerState L) (limits : List Limit) (turns : ℕ) (exchanges : List Exchange) (link : Option L) (core : Client) (out : List ℕ) (size : ℕ)
-    (replied : Bool) (idle cost place : ℕ) (dialer : DialerState L) : Type 0 where
+    (noted : Noted) (idle cost place : ℕ) (dialer : DialerState L) : Type 0 where
   pub past : List (Part L)
   pub all : List Happening
-  pub at : TalkAt state first old past all link core replied idle cost dialer
+  pub at : TalkAt state first old past all link core noted idle cost dialer
   pub read : AreRead exchanges (all_results None past all)
   pub told : ToldAt exchanges all place
   pub limits_are : limits ≡ all_limits first.limits past all
@@ -107,9 +108,9 @@ pub record HasEnded {L : Type 0} (state : L → LinkState) (first : Start) (old 
   pub limits_are : limits ≡ all_limits first.limits past all
   pub ends : Ends state limits first old past all end cost dialer
 
-abbrev pub Stands : {L : Type 0} → (L → LinkState) → Start → DialerState L → List Limit → ℕ → List Exchange → Option AskEnd → Option L → Client → List ℕ → ℕ → Bool → ℕ → ℕ → ℕ → DialerState L → Type 0
-Stands state first old limits turns exchanges None link core out size replied idle cost place dialer = IsOpen state first old limits turns exchanges link core out size replied idle cost place dialer
-Stands state first old limits turns exchanges (Some end) link core out size replied idle cost place dialer = HasEnded state first old limits exchanges end cost dialer
+abbrev pub Stands : {L : Type 0} → (L → LinkState) → Start → DialerState L → List Limit → ℕ → List Exchange → Option AskEnd → Option L → Client → List ℕ → ℕ → Noted → ℕ → ℕ → ℕ → DialerState L → Type 0
+Stands state first old limits turns exchanges None link core out size noted idle cost place dialer = IsOpen state first old limits turns exchanges link core out size noted idle cost place dialer
+Stands state first old limits turns exchanges (Some end) link core out size noted idle cost place dialer = HasEnded state first old limits exchanges end cost dialer
 
 -- what a block that was told to a call shows
 abbrev pub AnswersBy : Call → Told → Result Answer AskEnd → Type 0
@@ -125,14 +126,14 @@ LogsAnswer call before (Err end) after = after ≡ before
 
 -- The call was told this, behind the exchanges before it, and the client can be asked again.
 pub record TellsOn {L : Type 0} (state : L → LinkState) (first : Start) (old : DialerState L) (limits : List Limit) (turns : ℕ) (exchanges : List Exchange) (call : Call) (told : Told) (link : Option L) (core : Client) (out : List ℕ) (size : ℕ)
-    (replied : Bool) (idle cost : ℕ) (dialer : DialerState L) : Type 0 where
+    (noted : Noted) (idle cost : ℕ) (dialer : DialerState L) : Type 0 where
   pub past : List (Part L)
   pub all : List Happening
   pub read : AreRead exchanges (all_results None past all)
   pub limits_are : limits ≡ all_limits first.limits past all
   pub limit : turns ≡ allowed (all_limits first.limits past all)
   pub s : ClientState
-  pub asks : AsksTalk state turns first old past all s call (Ok told) link core replied idle cost dialer
+  pub asks : AsksTalk state turns first old past all s call (Ok told) link core noted idle cost dialer
   pub linked : IsSome link
   pub empty : out ≡ []
   pub ready : IsReady core.state

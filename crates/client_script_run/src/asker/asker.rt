@@ -68,7 +68,7 @@ impl<D: Dialer> Model for LinkAsker<D> {
     } };
 
     ghost invariant = { λ a. Stands D.Link.link_state (first_of a.beginning.core.value a.beginning.turns) (D.dialer_state a.beginning.dialer.value) a.beginning.limits.items a.talk.turns (zipped a.exchanges.calls.items a.exchanges.answers.items) a.ended
-        a.talk.link a.talk.core a.talk.out (length a.talk.room.items) a.talk.replied a.talk.idle a.talk.cost a.place (D.dialer_state a.talk.dialer) };
+        a.talk.link a.talk.core a.talk.out (length a.talk.room.items) a.talk.noted a.talk.idle a.talk.cost a.place (D.dialer_state a.talk.dialer) };
 }
 
 /// A dialer whose links were all handed back, and why no client was opened over it.
@@ -165,8 +165,8 @@ fn take_told<D: Dialer>(
     requires none { ended.old ≡ None }
     ensures logs { LogsAnswer call.now (zipped exchanges.old.calls.items exchanges.old.answers.items) result (zipped exchanges.new.calls.items exchanges.new.answers.items) }
     ensures turns { talk.new.turns ≡ talk.old.turns }
-    ensures stands { TellsOn D.Link.link_state (first_of beginning.now.core.value beginning.now.turns) (D.dialer_state beginning.now.dialer.value) beginning.now.limits.items talk.old.turns (zipped exchanges.old.calls.items exchanges.old.answers.items) call.now told talk.old.link talk.old.core talk.old.out (length talk.old.room.items) talk.old.replied talk.old.idle talk.old.cost (D.dialer_state talk.old.dialer)
-        → Stands D.Link.link_state (first_of beginning.now.core.value beginning.now.turns) (D.dialer_state beginning.now.dialer.value) beginning.now.limits.items talk.new.turns (zipped exchanges.new.calls.items exchanges.new.answers.items) ended.new talk.new.link talk.new.core talk.new.out (length talk.new.room.items) talk.new.replied talk.new.idle talk.new.cost told.at (D.dialer_state talk.new.dialer) }
+    ensures stands { TellsOn D.Link.link_state (first_of beginning.now.core.value beginning.now.turns) (D.dialer_state beginning.now.dialer.value) beginning.now.limits.items talk.old.turns (zipped exchanges.old.calls.items exchanges.old.answers.items) call.now told talk.old.link talk.old.core talk.old.out (length talk.old.room.items) talk.old.noted talk.old.idle talk.old.cost (D.dialer_state talk.old.dialer)
+        → Stands D.Link.link_state (first_of beginning.now.core.value beginning.now.turns) (D.dialer_state beginning.now.dialer.value) beginning.now.limits.items talk.new.turns (zipped exchanges.new.calls.items exchanges.new.answers.items) ended.new talk.new.link talk.new.core talk.new.out (length talk.new.room.items) talk.new.noted talk.new.idle talk.new.cost told.at (D.dialer_state talk.new.dialer) }
 {
     match answer_of(alloc, call, &told) {
         Ok(answer) => {
@@ -194,11 +194,11 @@ fn ask_open<D: Dialer>(
 ) -> Result<Answer, AskEnd>
     requires askable { IsAskable call.now }
     requires none { ended.old ≡ None }
-    requires open { IsOpen D.Link.link_state (first_of beginning.now.core.value beginning.now.turns) (D.dialer_state beginning.now.dialer.value) beginning.now.limits.items talk.old.turns (zipped exchanges.old.calls.items exchanges.old.answers.items) talk.old.link talk.old.core talk.old.out (length talk.old.room.items) talk.old.replied talk.old.idle talk.old.cost place.old (D.dialer_state talk.old.dialer) }
+    requires open { IsOpen D.Link.link_state (first_of beginning.now.core.value beginning.now.turns) (D.dialer_state beginning.now.dialer.value) beginning.now.limits.items talk.old.turns (zipped exchanges.old.calls.items exchanges.old.answers.items) talk.old.link talk.old.core talk.old.out (length talk.old.room.items) talk.old.noted talk.old.idle talk.old.cost place.old (D.dialer_state talk.old.dialer) }
     ensures logs { LogsAnswer call.now (zipped exchanges.old.calls.items exchanges.old.answers.items) result (zipped exchanges.new.calls.items exchanges.new.answers.items) }
     ensures falls { OnOk result (2 ^ 64 - answered.new < 2 ^ 64 - answered.old) }
     ensures turns { talk.new.turns ≡ talk.old.turns }
-    ensures stands { Stands D.Link.link_state (first_of beginning.now.core.value beginning.now.turns) (D.dialer_state beginning.now.dialer.value) beginning.now.limits.items talk.new.turns (zipped exchanges.new.calls.items exchanges.new.answers.items) ended.new talk.new.link talk.new.core talk.new.out (length talk.new.room.items) talk.new.replied talk.new.idle talk.new.cost place.new (D.dialer_state talk.new.dialer) }
+    ensures stands { Stands D.Link.link_state (first_of beginning.now.core.value beginning.now.turns) (D.dialer_state beginning.now.dialer.value) beginning.now.limits.items talk.new.turns (zipped exchanges.new.calls.items exchanges.new.answers.items) ended.new talk.new.link talk.new.core talk.new.out (length talk.new.room.items) talk.new.noted talk.new.idle talk.new.cost place.new (D.dialer_state talk.new.dialer) }
 {
     if *answered == u64::MAX {
         talk.leave();

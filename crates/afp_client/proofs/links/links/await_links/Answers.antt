@@ -4,7 +4,8 @@ use Rattle.afp_client.proofs.OfLinks.LimitLemmas.{allowed-here}
 use Rattle.dsi_frame.specs.Buffered.{Buffered}
 use Rattle.afp_client.specs.session.State.{Client}
 use Rattle.afp_client.specs.links.Links.{dialled}
-use Rattle.afp_client.specs.links.lemma.Coming.{CameOn, LivesOn, OpensOn}
+use Rattle.afp_client.specs.links.Coming.{CameOn}
+use Rattle.afp_client.specs.links.lemma.Coming.{LivesOn, OpensOn}
 use Rattle.afp_client.specs.declared.links.came.Came.{Came}
 use Rattle.afp_client.specs.declared.links.came.Came.TheVariants as comes
 use Rattle.afp_client.proofs.OfLinks.GoingLemmas.{rejoined_live, rejoined_opening, opens-after}
@@ -15,17 +16,17 @@ pub returns-then-not-is_break-clause-leaves : goal.returns-then-not-is_break-cla
 returns-then-not-is_break-clause-leaves g c = λ first old past all is over.
     let here = c.loop-link.invariant.over first old past all is over in
     leaves-link g.D.Link.Link.link_state c.args.turns first old past here.0 all here.1 c.loop-link.core c.await_sent-came.new.core c.loop-link.out c.loop-link.link c.await_sent-came.new.link
-    c.loop-link.replied c.await_sent-came.new.replied c.loop-link.cost c.await_sent-came.new.cost c.loop-link.idle (g.D.Dialer.dialer_state c.loop-link.dialer) c.await_sent-came.result
+    c.loop-link.noted c.await_sent-came.new.noted c.loop-link.cost c.await_sent-came.new.cost c.loop-link.idle (g.D.Dialer.dialer_state c.loop-link.dialer) c.await_sent-came.result
     here.2 here.3 (c.await_sent-came.ensures.comes (dialled here.3.from) here.1 (allowed-here g.D.Link.Link.link_state c.args.turns first here.3.from past here.0 all here.1 is here.2 here.3.past_is) here.3.on)
 
 pub returns-in-Err-clause-leaves : goal.returns-in-Err-clause-leaves
 returns-in-Err-clause-leaves g c = λ first old past all is over.
     let here = c.loop-link.invariant.over first old past all is over in
     let broke : c.await_sent-came.result ≡ comes.Broke = search rules in
-    let b = subst (λ (came : Came). CameOn (dialled here.3.from) c.args.turns here.1 came c.await_sent-came.new.core (g.D.Link.Link.link_state c.await_sent-came.new.link) c.await_sent-came.new.replied c.await_sent-came.new.cost) broke
+    let b = subst (λ (came : Came). CameOn (dialled here.3.from) c.args.turns here.1 came c.await_sent-came.new.core (g.D.Link.Link.link_state c.await_sent-came.new.link) c.await_sent-came.new.noted c.await_sent-came.new.cost) broke
     (c.await_sent-came.ensures.comes (dialled here.3.from) here.1 (allowed-here g.D.Link.Link.link_state c.args.turns first here.3.from past here.0 all here.1 is here.2 here.3.past_is) here.3.on) in
     let next = breaks-over g.D.Link.Link.link_state first old here.0 here.1 c.loop-link.core c.await_sent-came.new.core c.break_link.new.core c.loop-link.out c.loop-link.link c.await_sent-came.new.link
-    c.loop-link.replied c.await_sent-came.new.replied c.loop-link.cost c.await_sent-came.new.cost c.loop-link.idle c.break_link.new.idle (g.D.Dialer.dialer_state c.loop-link.dialer) (g.D.Dialer.dialer_state c.break_link.new.dialer)
+    c.loop-link.noted c.await_sent-came.new.noted c.loop-link.cost c.await_sent-came.new.cost c.loop-link.idle c.break_link.new.idle (g.D.Dialer.dialer_state c.loop-link.dialer) (g.D.Dialer.dialer_state c.break_link.new.dialer)
     here.3 b (ap (λ (x : Client). x.state) c.break_link.ensures.core) c.break_link.ensures.idle c.break_link.ensures.back in
     let same = same_over-join past here.0 next.later all here.1 [] here.2 next.same in
     record {
@@ -48,10 +49,10 @@ loop-link-preserved g c = record {
   over = λ first old past all is over.
       let here = c.loop-link.invariant.over first old past all is over in
       let broke : c.await_sent-came.result ≡ comes.Broke = search rules in
-      let b = subst (λ (came : Came). CameOn (dialled here.3.from) c.args.turns here.1 came c.await_sent-came.new.core (g.D.Link.Link.link_state c.await_sent-came.new.link) c.await_sent-came.new.replied c.await_sent-came.new.cost) broke
+      let b = subst (λ (came : Came). CameOn (dialled here.3.from) c.args.turns here.1 came c.await_sent-came.new.core (g.D.Link.Link.link_state c.await_sent-came.new.link) c.await_sent-came.new.noted c.await_sent-came.new.cost) broke
       (c.await_sent-came.ensures.comes (dialled here.3.from) here.1 (allowed-here g.D.Link.Link.link_state c.args.turns first here.3.from past here.0 all here.1 is here.2 here.3.past_is) here.3.on) in
       let next = breaks-over g.D.Link.Link.link_state first old here.0 here.1 c.loop-link.core c.await_sent-came.new.core c.break_link.new.core c.loop-link.out c.loop-link.link c.await_sent-came.new.link
-      c.loop-link.replied c.await_sent-came.new.replied c.loop-link.cost c.await_sent-came.new.cost c.loop-link.idle c.break_link.new.idle (g.D.Dialer.dialer_state c.loop-link.dialer) (g.D.Dialer.dialer_state c.break_link.new.dialer)
+      c.loop-link.noted c.await_sent-came.new.noted c.loop-link.cost c.await_sent-came.new.cost c.loop-link.idle c.break_link.new.idle (g.D.Dialer.dialer_state c.loop-link.dialer) (g.D.Dialer.dialer_state c.break_link.new.dialer)
       here.3 b (ap (λ (x : Client). x.state) c.break_link.ensures.core) c.break_link.ensures.idle c.break_link.ensures.back in
       let same = same_over-join past here.0 next.later all here.1 [] here.2 next.same in
       (next.later, [], same, c.in-Ok.ensures.rejoins first old next.later (is ∙ ap allowed (sym (same.limits first.limits))) next.between);

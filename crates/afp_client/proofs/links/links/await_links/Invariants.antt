@@ -14,9 +14,9 @@ invariant-loop-link g l = record {
   opening : l.opening ≡ true → Opening l.initial.core.state l.core.state;
   fits : l.core.held.place + length l.core.held.rest ≤ l.cost;
   over : (first : Start) (old : DialerState g.row.D-Link.Denot) (past : List (Part g.row.D-Link.Denot)) (all : List Happening) → l.turns ≡ allowed (all_limits first.limits past all)
-      → Over g.D.Link.Link.link_state first old past all (spot l.initial.core l.initial.out (g.D.Link.Link.link_state l.initial.link) l.initial.replied l.initial.cost) l.initial.idle (g.D.Dialer.dialer_state l.initial.dialer)
+      → Over g.D.Link.Link.link_state first old past all (spot l.initial.core l.initial.out (g.D.Link.Link.link_state l.initial.link) l.initial.noted l.initial.cost) l.initial.idle (g.D.Dialer.dialer_state l.initial.dialer)
       → (later : List (Part g.row.D-Link.Denot)) × (now : List Happening) × SameOver past all later now
-      × Over g.D.Link.Link.link_state first old later now (spot l.core l.out (g.D.Link.Link.link_state l.link) l.replied l.cost) l.idle (g.D.Dialer.dialer_state l.dialer);
+      × Over g.D.Link.Link.link_state first old later now (spot l.core l.out (g.D.Link.Link.link_state l.link) l.noted l.cost) l.idle (g.D.Dialer.dialer_state l.dialer);
 }
 
 abbrev pub decreases-loop-link : goal.decreases-loop-link

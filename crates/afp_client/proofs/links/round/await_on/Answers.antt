@@ -1,4 +1,4 @@
-use Rattle.std.proofs.Common.{arith, rules, ap, Some}
+use Rattle.std.proofs.Common.{arith, rules, ap, refl, Some}
 use Rattle.afp_client.proofs.OfLinks.GoingLemmas.{opening-then, opens-after, opens-read, lives-came, kept-live, kept-opening}
 use Rattle.afp_client.proofs.OfLinks.RoundLemmas.{afford-still, goes-after, came-after}
 use Rattle.afp_client.proofs.links.round.await_on.Goals as goal
@@ -12,6 +12,7 @@ pub returns-then-cost-turns-clause-comes : goal.returns-then-cost-turns-clause-c
 returns-then-cost-turns-clause-comes g c = λ start all is on.
     let here = c.loop-came.invariant.goes start all is on in record {
       goes_on = goes-after start all here.now _ _ _ _ here.same (c.in_default.ensures.comes start c.args.turns here.now _ here.on);
+      unfinished = c.in_default.ensures.unfinished refl;
       reached = c.if-cost-turns.true;
     }
 
@@ -20,7 +21,7 @@ returns-in-Some-read_round-clause-comes g c = λ start all is on.
     let here = c.loop-came.invariant.goes start all is on in
     let taken = c.in_default.ensures.comes start c.args.turns here.now _ here.on in
     came-after start c.args.turns all here.now c.in-Some-read_round.came _ _ _ _ here.same
-    (came-after start c.args.turns here.now taken.now c.in-Some-read_round.came _ _ _ _ taken.same (c.in-Some-read_round.ensures.comes start c.args.turns taken.now _ (afford-still start c.args.turns c.loop-came.cost all here.now taken.now is here.same taken.same (search rules)) taken.on))
+    (came-after start c.args.turns here.now taken.now c.in-Some-read_round.came _ _ _ _ taken.same (c.in-Some-read_round.ensures.comes start c.args.turns taken.now (afford-still start c.args.turns c.loop-came.cost all here.now taken.now is here.same taken.same (search rules)) taken.on))
 
 pub loop-came-preserved : goal.loop-came-preserved
 loop-came-preserved g c = record {
@@ -33,7 +34,7 @@ loop-came-preserved g c = record {
       let here = c.loop-came.invariant.goes start all is on in
       let taken = c.in_default.ensures.comes start c.args.turns here.now _ here.on in
       goes-after start all here.now _ _ _ _ here.same
-      (goes-after start here.now taken.now _ _ _ _ taken.same (c.in_default-read_round.ensures.comes start c.args.turns taken.now _ (afford-still start c.args.turns c.loop-came.cost all here.now taken.now is here.same taken.same (search rules)) taken.on));
+      (goes-after start here.now taken.now _ _ _ _ taken.same (c.in_default-read_round.ensures.comes start c.args.turns taken.now (afford-still start c.args.turns c.loop-came.cost all here.now taken.now is here.same taken.same (search rules)) taken.on));
 }
 
 pub returns-in-Some-clause-opens : goal.returns-in-Some-clause-opens

@@ -1,23 +1,24 @@
-use Rattle.std.proofs.Common.{rules, List, ℕ, Bool, sym, ap, ◌∙◌, subst}
+use Rattle.std.proofs.Common.{List, ℕ, Bool, ◌||◌, sym, ap, ◌∙◌, subst}
 use Rattle.afp_client.specs.session.Happens.{Happens}
 use Rattle.afp_client.specs.links.lemma.Coming.{NextOn, LivesNext, OpensNext, next_of}
+use Rattle.afp_client.specs.links.History.{is_reply}
 use Rattle.afp_client.specs.declared.links.came.Next.{Next}
 use Rattle.afp_client.proofs.OfLinks.NextLemmas.{next-on, next-unsent, next-ready}
-use Rattle.afp_client.proofs.OfLinks.GoingLemmas.{lives_next, lives_unsent, opens_next, opens_unsent, reads_is}
+use Rattle.afp_client.proofs.OfLinks.GoingLemmas.{lives_next, lives_unsent, opens_next, opens_unsent, reads_is, reads_unfinished}
 use Rattle.afp_client.proofs.links.round.next.Goals as goal
 
 pub returns-then-flush-clause-next : goal.returns-then-flush-clause-next
 returns-then-flush-clause-next g c = λ start turns all cost on.
     let happens = subst (λ (x : List ℕ). Happens c.args.core.now x c.event-event.result c.event-event.new.self c.event-event.new.out) c.requires.empty c.event-event.ensures.happens in
-    subst (λ (n : Next). NextOn start turns all n c.event-event.new.self (g.L.Link.link_state c.flush.new.link) c.note_reply.new.replied cost) (sym c.next_of.ensures)
-    (next-on start turns all c.args.core.now c.event-event.new.self c.event-event.new.out (g.L.Link.link_state c.args.link.now) (g.L.Link.link_state c.flush.new.link) c.args.replied.now c.note_reply.new.replied cost c.args.opening c.place-at.result c.event-event.result
-    c.place-at.ensures on happens (search rules) c.if-flush.ensures.sends)
+    subst (λ (n : Next). NextOn start turns all n c.event-event.new.self (g.L.Link.link_state c.flush.new.link) c.flush.new.noted cost) (sym c.next_of.ensures)
+    (next-on start turns all c.args.core.now c.event-event.new.self c.event-event.new.out (g.L.Link.link_state c.args.link.now) (g.L.Link.link_state c.flush.new.link) c.args.noted.now c.note_reply.new.noted c.flush.new.noted cost c.args.opening c.place-at.result c.event-event.result
+    c.place-at.ensures on happens (c.note_reply.ensures ∙ ap (λ (b : Bool). record c.args.noted.now { replied = is_reply b c.event-event.result || c.args.noted.now.replied }) c.opened-opened.ensures) c.if-flush.ensures.sends c.if-flush.ensures.notes)
 
 pub returns-else-flush-clause-next : goal.returns-else-flush-clause-next
 returns-else-flush-clause-next g c = λ start turns all cost on.
     let happens = subst (λ (x : List ℕ). Happens c.args.core.now x c.event-event.result c.event-event.new.self c.event-event.new.out) c.requires.empty c.event-event.ensures.happens in
-    next-unsent start all c.args.core.now c.event-event.new.self c.event-event.new.out (g.L.Link.link_state c.args.link.now) (g.L.Link.link_state c.flush.new.link) c.args.replied.now c.note_reply.new.replied cost c.event-event.result
-    on happens (search rules) c.if-flush.ensures.sends
+    next-unsent start all c.args.core.now c.event-event.new.self c.event-event.new.out (g.L.Link.link_state c.args.link.now) (g.L.Link.link_state c.flush.new.link) c.args.noted.now c.note_reply.new.noted c.flush.new.noted cost c.event-event.result
+    on happens (c.note_reply.ensures ∙ ap (λ (b : Bool). record c.args.noted.now { replied = is_reply b c.event-event.result || c.args.noted.now.replied }) c.opened-opened.ensures) c.if-flush.ensures.sends c.if-flush.ensures.notes
 
 pub returns-then-flush-clause-ready : goal.returns-then-flush-clause-ready
 returns-then-flush-clause-ready g c = λ at code block is.
@@ -48,3 +49,7 @@ pub returns-else-flush-clause-opens : goal.returns-else-flush-clause-opens
 returns-else-flush-clause-opens g c = λ is.
     let happens = subst (λ (x : List ℕ). Happens c.args.core.now x c.event-event.result c.event-event.new.self c.event-event.new.out) c.requires.empty c.event-event.ensures.happens in
     opens_unsent c.args.core.now c.event-event.new.self c.event-event.new.out (g.L.Link.link_state c.args.link.now) (g.L.Link.link_state c.flush.new.link) c.event-event.result (c.requires.unopened is) happens c.if-flush.ensures.sends
+
+pub returns-then-flush-clause-unfinished : goal.returns-then-flush-clause-unfinished
+returns-then-flush-clause-unfinished g c = λ is.
+    reads_unfinished c.args.opening c.place-at.result c.args.core.now c.event-event.new.self c.args.out.now c.event-event.new.out c.event-event.result c.requires.live c.event-event.ensures.happens (sym c.next_of.ensures ∙ is)

@@ -1,8 +1,9 @@
 use Rattle.std.proofs.Common.{◌≡◌, true, false, ℕ, ◌+◌, List, [], length}
 use Rattle.afp_client.specs.session.State.{is_lost}
 use Rattle.afp_client.specs.links.History.{Happening}
-use Rattle.afp_client.specs.links.OnLink.{Start, OnLink, spot}
-use Rattle.afp_client.specs.links.lemma.Coming.{GoesOn, Opening}
+use Rattle.afp_client.specs.links.OnLink.{Start, LiveOn, spot}
+use Rattle.afp_client.specs.links.Coming.{GoesOn}
+use Rattle.afp_client.specs.links.lemma.Coming.{Opening}
 use Rattle.afp_client.proofs.links.round.take_events.Given as goal
 
 abbrev pub invariant-loop-came : goal.invariant-loop-came
@@ -11,8 +12,8 @@ invariant-loop-came g l = record {
   live : is_lost l.core.state.stage ≡ false;
   opening : l.opening ≡ true → Opening l.initial.core.state l.core.state;
   fits : l.core.held.place + length l.core.held.rest ≡ l.initial.core.held.place + length l.initial.core.held.rest;
-  goes : (start : Start) (all : List Happening) (cost : ℕ) → OnLink start all (spot l.initial.core [] (g.L.Link.link_state l.initial.link) l.initial.replied cost)
-      → GoesOn start all l.core (g.L.Link.link_state l.link) l.replied cost;
+  goes : (start : Start) (all : List Happening) (cost : ℕ) → LiveOn start all (spot l.initial.core [] (g.L.Link.link_state l.initial.link) l.initial.noted cost)
+      → GoesOn start all l.core (g.L.Link.link_state l.link) l.noted cost;
 }
 
 abbrev pub decreases-loop-came : goal.decreases-loop-came

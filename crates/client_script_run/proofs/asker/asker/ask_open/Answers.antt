@@ -13,5 +13,5 @@ returns-in-Err-clause-stands g c =
     let first = first_of c.args.beginning.now.core.value c.args.beginning.now.turns in
     let limits = c.args.beginning.now.limits.items in
     let old = g.D.Dialer.dialer_state c.args.beginning.now.dialer.value in
-    links-end state first old limits was.turns exchanges was.link now.link was.core now.core was.out (length was.room.items) was.replied now.replied was.idle now.idle was.cost now.cost c.args.place.now
+    links-end state first old limits was.turns exchanges was.link now.link was.core now.core was.out (length was.room.items) was.noted now.noted was.idle now.idle was.cost now.cost c.args.place.now
     (g.D.Dialer.dialer_state was.dialer) (g.D.Dialer.dialer_state now.dialer) c.args.call.now c.in-Err.end c.requires.open c.in-Err.ensures.answers

@@ -1,0 +1,22 @@
+use Rattle.std.proofs.Common.{length, subst, sym, Option}
+use Rattle.client_script_run.specs.asker.Read.{zipped}
+use Rattle.client_script_run.specs.asker.Standing.{HasLeft, Stands, first_of}
+use Rattle.client_script_run.specs.declared.asker.asker.AskEnd.{AskEnd}
+use Rattle.client_script_run.proofs.OfAsker.StandingLemmas.{leaves-on}
+use Rattle.client_script_run.proofs.asker.asker.LinkAsker.leave.Goals as goal
+
+pub returns-in-None-clause-finishes : goal.returns-in-None-clause-finishes
+returns-in-None-clause-finishes g c =
+    let state = g.D.Link.Link.link_state in
+    let inside = c.self.inside in
+    let talk = inside.talk in
+    let exchanges = zipped inside.exchanges.calls.items inside.exchanges.answers.items in
+    let first = first_of inside.beginning.core.value inside.beginning.turns in
+    let limits = inside.beginning.limits.items in
+    let old = g.D.Dialer.dialer_state inside.beginning.dialer.value in
+    let dialer = g.D.Dialer.dialer_state talk.dialer in
+    let stands = subst (λ (e : Option AskEnd). Stands state first old limits talk.turns exchanges e talk.link talk.core talk.out (length talk.room.items) talk.noted talk.idle talk.cost inside.place dialer) c.in-None.is c.self.invariant in
+    rw (← c.self.view_is) (rw c.in-None.is
+    (subst (λ (d : g.row.D.Denot). HasLeft state first old limits exchanges talk.cost inside.place (g.D.Dialer.dialer_state d)) (sym c.into_dialer.ensures)
+    (leaves-on state first old limits talk.turns exchanges talk.link talk.core talk.out (length talk.room.items) talk.noted talk.idle talk.cost inside.place dialer
+    (g.D.Dialer.dialer_state c.leave.new.self.dialer) stands c.leave.ensures.leaves)))
