@@ -86,7 +86,6 @@ OTHER_CODES = {"Ok": "the call has its effect", "MiscErr": "a keeper failed", "N
 # Words that stand among the lemmas though a definition cites them, by crate, module and name. They belong beside the definitions that cite them; any other
 # lemma that a definition cites is a fault, and so is one of these that none cites any more.
 LEMMAS_CITED = {
-    ("afp_client", "links.lemma.Coming", "CameOn"), ("afp_client", "links.lemma.Coming", "StandsAt"), ("afp_client", "links.lemma.Rejoining", "LeavesNone"),
     ("capture_log_server", "lemma.Moves", "Extends"),
 }
 
