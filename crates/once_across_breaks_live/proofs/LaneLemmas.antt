@@ -6,6 +6,9 @@ use Rattle.afp_base.specs.declared.ids.LinkNumber.{LinkNumber}
 use Rattle.afp_serial.specs.Shown.{Asked, Shown}
 use Rattle.afp_serial.specs.declared.ask.Ask.TheVariants as ask
 use Rattle.afp_serial.specs.declared.ask.Told as tolds
+use Rattle.afp_serial.specs.declared.ask.Told.TheVariants.{Memory}
+use Rattle.afp_serial.specs.Went.{step}
+use Rattle.afp_serial.proofs.Grows.{went-none, went-one}
 use Rattle.afp_server.specs.link.Wire as wires
 use Rattle.afp_server.specs.link.Wire.{Feeds, PartsBy, WireState, feed_point, open_link}
 use Rattle.afp_server.specs.declared.link.stage.Stage.{Stage}
@@ -17,7 +20,8 @@ use Rattle.dsi_frame.specs.Frame.{Frame}
 use Rattle.once_across_breaks_code.specs.run.Doings.{is_displaced}
 use Rattle.once_across_breaks_code.specs.run.Things as things
 use Rattle.once_across_breaks_live.specs.declared.lane.Lane.{Lane}
-use Rattle.once_across_breaks_live.specs.lemma.Lanes.{FedWith, FeedsLane, HasEnd, IdlesLane, IsLane, IsLive, IsStill, LosesLane, open_at}
+use Rattle.once_across_breaks_live.specs.lemma.Lanes.{FedWith, FeedsLane, HasEnd, IdlesLane, IsLane, IsLive, IsStill, LosesLane, PartsTold, open_at}
+use Rattle.once_across_breaks_live.specs.Steps.{LossIsTold}
 use Rattle.once_across_breaks_live.proofs.Going.{asked-goes, feeds-goes, went-goes}
 
 no-length : (xs : List ℕ) → length xs ≡ 0 → xs ≡ []
@@ -29,14 +33,14 @@ no-length (x ∷ xs) e = absurd (cc e)
 drop-most : (n : ℕ) (xs : List ℕ) → drop (min (length xs) n) xs ≡ drop n xs
 drop-most n xs = ap (λ (k : ℕ). drop k xs) (let e : min (length xs) n ≡ min n (length xs) = omega arith in e) ∙ drop_min n xs
 
-pub rests-none : (n now size : ℕ) (l : Lane) (x : things.Lane) (a : Shown) → IsLane l x → size ≡ min (length l.up) n → size ≡ 0 → FeedsLane n now x a l a
-rests-none n now size l x a is size_is none = inr (
+pub rests-none : (told : Bool) (n now size : ℕ) (l : Lane) (x : things.Lane) (a : Shown) → IsLane l x → size ≡ min (length l.up) n → size ≡ 0 → FeedsLane told n now x a l a
+rests-none told n now size l x a is size_is none = inr (
   (λ live asked some. some (is.up ∙ no-length l.up (omega (arith, size_is, none, asked)))),
   record { lane = is; shown = refl },
 )
 
-pub rests-ended : (n now : ℕ) (l new : Lane) (x : things.Lane) (a : Shown) → IsLane l x → l.wire ≡ None → new ≡ record { wire = None; fed = l.fed; up = l.up; down = l.down } → FeedsLane n now x a new a
-rests-ended n now l new x a is none same =
+pub rests-ended : (told : Bool) (n now : ℕ) (l new : Lane) (x : things.Lane) (a : Shown) → IsLane l x → l.wire ≡ None → new ≡ record { wire = None; fed = l.fed; up = l.up; down = l.down } → FeedsLane told n now x a new a
+rests-ended told n now l new x a is none same =
     let over : x.ended ≡ true = subst (λ (o : Option WireState). HasEnd o l x) none is.end in
     inr (
       (λ live asked some. absurd (let e : true ≡ false = sym over ∙ live in cc e)),
@@ -66,9 +70,9 @@ given-after : (start : wires.FeedStart) (bytes : List ℕ) (result : Option Wire
 given-after start bytes None w p f none = (bytes, start.past ++ f.0.frames, f.0.given)
 given-after start bytes (Some e) w p f none = absurd (cc none)
 
-pub feeds-some : (n now size : ℕ) (w : WireState) (o : Option WireState) (l new : Lane) (x : things.Lane) (a b : Shown) → IsLane l x → l.wire ≡ Some w → size ≡ min (length l.up) n → (size ≡ 0 → ⊥)
-    → FedWith size now w (record { wire = o; fed = l.fed; up = l.up; down = l.down }) a new b → FeedsLane n now x a new b
-feeds-some n now size w o l new x a b is there size_is some f =
+pub feeds-some : (told : Bool) (n now size : ℕ) (w : WireState) (o : Option WireState) (l new : Lane) (x : things.Lane) (a b : Shown) → IsLane l x → l.wire ≡ Some w → size ≡ min (length l.up) n → (size ≡ 0 → ⊥)
+    → FedWith told size now w (record { wire = o; fed = l.fed; up = l.up; down = l.down }) a new b → FeedsLane told n now x a new b
+feeds-some told n now size w o l new x a b is there size_is some f =
     let live : IsLive w l x = subst (λ (o : Option WireState). HasEnd o l x) there is.end in
     let within : size ≤ length l.up = omega (arith, size_is) in
     let full : length (take size l.up) ≡ size = length-take-le size l.up within in
@@ -94,6 +98,7 @@ feeds-some n now size w o l new x a b is there size_is some f =
         typed = f.typed;
       };
       moved = f.up ∙ ap (λ (k : ℕ). drop k l.up) size_is ∙ drop-most n l.up ∙ ap (λ (ys : List ℕ). drop n ys) (sym is.up);
+      answered = f.answered;
       lane = record {
         up = refl;
         down = refl;
@@ -140,23 +145,38 @@ ends-pulsed l x is = record { up = is.up; down = is.down; end = refl }
 
 -- ---- a loss
 
-pub loses-none : (now : ℕ) (l new : Lane) (x : things.Lane) (a : Shown) → IsLane l x → l.wire ≡ None → new ≡ record { wire = None; fed = l.fed; up = l.up; down = l.down } → LosesLane now x a new a
-loses-none now l new x a is none same =
+pub loses-none : (told : Bool) (now : ℕ) (l new : Lane) (x : things.Lane) (a : Shown) → IsLane l x → l.wire ≡ None → new ≡ record { wire = None; fed = l.fed; up = l.up; down = l.down } → LosesLane told now x a new a
+loses-none told now l new x a is none same =
     let over : x.ended ≡ true = subst (λ (o : Option WireState). HasEnd o l x) none is.end in
     inr (
       (λ live. absurd (let e : true ≡ false = sym over ∙ live in cc e)),
       record { lane = subst (λ (y : Lane). IsLane y x) (sym same) record { up = is.up; down = is.down; end = over }; shown = refl },
     )
 
-pub loses-some : (now : ℕ) (l new : Lane) (x : things.Lane) (a b : Shown) (w : WireState) → IsLane l x → l.wire ≡ Some w → new ≡ record { wire = None; fed = l.fed; up = l.up; down = l.down } → PartsBy w.stage now a b → LosesLane now x a new b
-loses-some now l new x a b w is there same parts =
+pub loses-some : (told : Bool) (now : ℕ) (l new : Lane) (x : things.Lane) (a b : Shown) (w : WireState) → IsLane l x → l.wire ≡ Some w → new ≡ record { wire = None; fed = l.fed; up = l.up; down = l.down } → PartsTold told w.stage now a b → LosesLane told now x a new b
+loses-some told now l new x a b w is there same p =
     let live : IsLive w l x = subst (λ (o : Option WireState). HasEnd o l x) there is.end in
     inl record {
       live = live.ended;
-      parts = subst (λ (v : WireState). PartsBy v.stage now a b) (sym live.wire) parts;
+      parts = subst (λ (v : WireState). PartsBy v.stage now a b) (sym live.wire) p.parts;
+      answered = λ e. subst (λ (v : WireState). LossIsTold now v.stage a b) (sym live.wire) (p.answered e);
       lane = subst (λ (y : Lane). IsLane y (record { wire = x.wire; ended = true; up = x.up; down = x.down })) (sym same) (ends-pulsed l x is);
-      went_on = went-goes a b parts.steps parts.went;
+      went_on = went-goes a b p.parts.steps p.parts.went;
     }
+
+-- the end of a wire, where no session is open there, and where one is
+parts-closed : (told : Bool) (s : Stage) (now : ℕ) (a : Shown) → open_link s ≡ None → PartsTold told s now a a
+parts-closed told stages.Fresh now a none = record { parts = record { steps = []; parts = refl; went = went-none a }; answered = λ e. tt }
+parts-closed told stages.Closing now a none = record { parts = record { steps = []; parts = refl; went = went-none a }; answered = λ e. tt }
+parts-closed told (stages.Open link) now a none = absurd (cc none)
+
+pub loss-none : (s : Stage) (o : Option LinkNumber) (now : ℕ) (a : Shown) → o ≡ open_link s → o ≡ None → PartsTold true s now a a
+loss-none s o now a is none = parts-closed true s now a (sym is ∙ none)
+
+pub loss-some : (told : Bool) (s : Stage) (o : Option LinkNumber) (link : LinkNumber) (now : ℕ) (answer : tolds.Told) (a b : Shown) → o ≡ open_link s → o ≡ Some link → Asked a now link ask.Lost answer b → (told ≡ true → answer ≢ Memory) → PartsTold told s now a b
+loss-some told s o link now answer a b is there asked some =
+    subst (λ (x : Stage). PartsTold told x now a b) (sym (open-stage s link (sym is ∙ there)))
+    (record { parts = record { steps = step now link ask.Lost answer ∷ []; parts = (answer, refl); went = went-one a b now link ask.Lost answer asked }; answered = λ e. (answer, some e, asked) })
 
 -- ---- what holds of a wire that is there
 

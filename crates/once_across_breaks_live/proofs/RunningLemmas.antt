@@ -1,5 +1,5 @@
 -- What comes of a happening.
-use Rattle.std.proofs.Common.{◌≡◌, ◌≢◌, ◌∙◌, refl, sym, ap, subst, ℕ, ◌+◌, ◌-◌, ◌<◌, ◌≤◌, zero, suc, true, List, [], ◌∷◌, ◌++◌, length, min, take, drop, get_or, Option, Some, None, inl, inr, arith}
+use Rattle.std.proofs.Common.{◌≡◌, ◌≢◌, ◌∙◌, refl, sym, ap, subst, ℕ, ◌+◌, ◌-◌, ◌<◌, ◌≤◌, zero, suc, Bool, true, List, [], ◌∷◌, ◌++◌, length, min, take, drop, get_or, Option, Some, None, inl, inr, arith}
 use Rattle.std.specs.Prelude.{map, slice_get, slice_set}
 use Rattle.std.specs.List.{AllByRecursion}
 use Rattle.std.proofs.Math.Seq.{drop-cons}
@@ -34,24 +34,24 @@ use Rattle.once_across_breaks_live.specs.declared.lane.Lane.{Lane}
 use Rattle.once_across_breaks_live.specs.Happens.{AllHappen, GoesOn, room}
 use Rattle.once_across_breaks_live.specs.Once.{ComesTo, HappeningsAreSchedules, HappeningsTakeEffectOnce}
 use Rattle.once_across_breaks_live.specs.Skips.{CanBe, place_of}
-use Rattle.once_across_breaks_live.specs.Steps.{Steps}
+use Rattle.once_across_breaks_live.specs.Steps.{Server, Steps}
 use Rattle.once_across_breaks_live.specs.lemma.Lanes.{ChangesAt, FeedsLane, HasEnd, IdlesLane, IsFedLane, IsLane, LosesLane}
 use Rattle.once_across_breaks_live.specs.lemma.Near.{AsksNear, BringsNear, IsTakenNear, Near, Takings, came_to, near}
-use Rattle.once_across_breaks_live.specs.lemma.Running.{BeginsLane, Comes, IsPlace, Stands}
+use Rattle.once_across_breaks_live.specs.lemma.Running.{BeginsLane, Comes, IsPlace, IsSure, Stands}
 use Rattle.once_across_breaks_live.proofs.Going.{asked-goes, same-goes}
 use Rattle.once_across_breaks_live.proofs.Putting.{ChangesTo, put, put-here, put-off, stands-more, stands-set}
 
 -- ---- what is skipped
 
-pub skipped : (block : List ℕ) (h : Happening) (t : Things) (end : ClientEnd) (lanes : List Lane) (a : Shown) → Stands end lanes a t → (CanBe h t → ⊥) → Comes block h t end lanes a
-skipped block h t end lanes a st cannot = record { doings = []; last = t; happens = inr record { cannot = cannot; none = refl; same = refl }; stands = st }
+pub skipped : (server : Server) (h : Happening) (t : Things) (end : ClientEnd) (lanes : List Lane) (a : Shown) → Stands end lanes a t → (CanBe h t → ⊥) → Comes server h t end lanes a
+skipped server h t end lanes a st cannot = record { doings = []; last = t; happens = inr record { cannot = cannot; none = refl; same = refl }; stands = st }
 
 -- the same, where the link was looked at
 kept-at : (end : ClientEnd) (lanes : List Lane) (a b : Shown) (t : Things) (i : ℕ) (l : Lane) → Stands end lanes a t → b ≡ t.shown → IsLane l (t.lanes i) → Stands end (slice_set lanes i l) b t
 kept-at end lanes a b t i l st same is = stands-set end end lanes a b t t i l (t.lanes i) st st.client st.most st.results (sym same) (record { top = refl; here = refl; others = λ j off. refl }) is
 
-skips-at : (block : List ℕ) (h : Happening) (t : Things) (end : ClientEnd) (lanes : List Lane) (a b : Shown) (i : ℕ) (l : Lane) → Stands end lanes a t → b ≡ t.shown → IsLane l (t.lanes i) → (CanBe h t → ⊥) → Comes block h t end (slice_set lanes i l) b
-skips-at block h t end lanes a b i l st same is cannot = skipped block h t end (slice_set lanes i l) b (kept-at end lanes a b t i l st same is) cannot
+skips-at : (server : Server) (h : Happening) (t : Things) (end : ClientEnd) (lanes : List Lane) (a b : Shown) (i : ℕ) (l : Lane) → Stands end lanes a t → b ≡ t.shown → IsLane l (t.lanes i) → (CanBe h t → ⊥) → Comes server h t end (slice_set lanes i l) b
+skips-at server h t end lanes a b i l st same is cannot = skipped server h t end (slice_set lanes i l) b (kept-at end lanes a b t i l st same is) cannot
 
 -- ---- at a server end
 
@@ -70,9 +70,9 @@ stands-there end lanes a b t i l y st is = stands-set end end lanes a b t (with_
 abbrev no_change : (t : Things) (i : ℕ) (y : things.Lane) (b : Shown) → doings.ClientStays t (with_lane t i y b)
 no_change t i y b = record { client = refl; calls = refl; results = refl }
 
-server-by : (block : List ℕ) (link n now : ℕ) (end : ClientEnd) (lanes : List Lane) (a b : Shown) (t : Things) (l : Lane) → Stands end lanes a t → 0 < link → link ≤ suc t.top → IsSoundShown b
-    → FeedsLane n now (t.lanes (place_of link)) t.shown l b → Comes block (happenings.ToServer link n now) t end (slice_set lanes (place_of link) l) b
-server-by block link n now end lanes a b t l st first last sound (inl f) =
+server-by : (server : Server) (told : Bool) (link n now : ℕ) (end : ClientEnd) (lanes : List Lane) (a b : Shown) (t : Things) (l : Lane) → Stands end lanes a t → 0 < link → link ≤ suc t.top → IsSoundShown b → IsSure server.answered told
+    → FeedsLane told n now (t.lanes (place_of link)) t.shown l b → Comes server (happenings.ToServer link n now) t end (slice_set lanes (place_of link) l) b
+server-by server told link n now end lanes a b t l st first last sound sure (inl f) =
     let i : ℕ = place_of link in
     let s : Things = with_lane t i f.new b in
     let here : s.lanes i ≡ f.new = put-here i f.new t.lanes i refl in
@@ -102,18 +102,19 @@ server-by block link n now end lanes a b t l st first last sound (inl f) =
             };
             sound = sound;
             went_on = f.went_on;
+            answered = λ e. ap (λ (y : things.Lane). y.wire.tally.answered) here ∙ f.answered (sure e);
           },
           refl,
         );
       };
       stands = stands-there end lanes a b t i l f.new st f.lane;
     }
-server-by block link n now end lanes a b t l st first last sound (inr (cannot, rests)) =
-    skips-at block (happenings.ToServer link n now) t end lanes a b (place_of link) l st rests.shown rests.lane (λ can. cannot can.end.live can.asked can.some)
+server-by server told link n now end lanes a b t l st first last sound sure (inr (cannot, rests)) =
+    skips-at server (happenings.ToServer link n now) t end lanes a b (place_of link) l st rests.shown rests.lane (λ can. cannot can.end.live can.asked can.some)
 
-quiet-by : (block : List ℕ) (link now : ℕ) (end : ClientEnd) (lanes : List Lane) (a b : Shown) (t : Things) (l : Lane) → Stands end lanes a t → 0 < link → link ≤ suc t.top → IsSoundShown b
-    → IdlesLane now (t.lanes (place_of link)) t.shown l b → Comes block (happenings.Quiet link now) t end (slice_set lanes (place_of link) l) b
-quiet-by block link now end lanes a b t l st first last sound (inl f) =
+quiet-by : (server : Server) (link now : ℕ) (end : ClientEnd) (lanes : List Lane) (a b : Shown) (t : Things) (l : Lane) → Stands end lanes a t → 0 < link → link ≤ suc t.top → IsSoundShown b
+    → IdlesLane now (t.lanes (place_of link)) t.shown l b → Comes server (happenings.Quiet link now) t end (slice_set lanes (place_of link) l) b
+quiet-by server link now end lanes a b t l st first last sound (inl f) =
     let i : ℕ = place_of link in
     let x : things.Lane = t.lanes i in
     let y : things.Lane = record { wire = x.wire; ended = is_displaced f.told; up = x.up; down = x.down } in
@@ -140,18 +141,19 @@ quiet-by block link now end lanes a b t l st first last sound (inl f) =
             };
             sound = sound;
             went_on = f.went_on;
+            answered = λ e. tt;
           },
           refl,
         );
       };
       stands = stands-there end lanes a b t i l y st f.lane;
     }
-quiet-by block link now end lanes a b t l st first last sound (inr (cannot, rests)) =
-    skips-at block (happenings.Quiet link now) t end lanes a b (place_of link) l st rests.shown rests.lane (λ can. cannot can.end.live can.number can.in_session)
+quiet-by server link now end lanes a b t l st first last sound (inr (cannot, rests)) =
+    skips-at server (happenings.Quiet link now) t end lanes a b (place_of link) l st rests.shown rests.lane (λ can. cannot can.end.live can.number can.in_session)
 
-lost-by : (block : List ℕ) (link now : ℕ) (end : ClientEnd) (lanes : List Lane) (a b : Shown) (t : Things) (l : Lane) → Stands end lanes a t → 0 < link → link ≤ suc t.top → IsSoundShown b
-    → LosesLane now (t.lanes (place_of link)) t.shown l b → Comes block (happenings.Lost link now) t end (slice_set lanes (place_of link) l) b
-lost-by block link now end lanes a b t l st first last sound (inl f) =
+lost-by : (server : Server) (told : Bool) (link now : ℕ) (end : ClientEnd) (lanes : List Lane) (a b : Shown) (t : Things) (l : Lane) → Stands end lanes a t → 0 < link → link ≤ suc t.top → IsSoundShown b → IsSure server.answered told
+    → LosesLane told now (t.lanes (place_of link)) t.shown l b → Comes server (happenings.Lost link now) t end (slice_set lanes (place_of link) l) b
+lost-by server told link now end lanes a b t l st first last sound sure (inl f) =
     let i : ℕ = place_of link in
     let x : things.Lane = t.lanes i in
     let y : things.Lane = record { wire = x.wire; ended = true; up = x.up; down = x.down } in
@@ -176,14 +178,15 @@ lost-by block link now end lanes a b t l st first last sound (inl f) =
             };
             sound = sound;
             went_on = f.went_on;
+            answered = λ e. f.answered (sure e);
           },
           refl,
         );
       };
       stands = stands-there end lanes a b t i l y st f.lane;
     }
-lost-by block link now end lanes a b t l st first last sound (inr (cannot, rests)) =
-    skips-at block (happenings.Lost link now) t end lanes a b (place_of link) l st rests.shown rests.lane (λ can. cannot can.live)
+lost-by server told link now end lanes a b t l st first last sound sure (inr (cannot, rests)) =
+    skips-at server (happenings.Lost link now) t end lanes a b (place_of link) l st rests.shown rests.lane (λ can. cannot can.live)
 
 -- what was done at the place of a link is done at the link's own
 record AtPlace (link : ℕ) (lanes new : List Lane) (t : Things) (does : things.Lane → Shown → Lane → Type 0) : Type 0 where
@@ -201,42 +204,42 @@ at-place link i end lanes new a t does st (first, place, within) ch = record {
   done = subst (λ (j : ℕ). does (t.lanes j) t.shown ch.new) place (subst (λ (c : Shown). does (t.lanes i) c ch.new) (sym st.shown_is) (ch.changed (t.lanes i) (st.each i ch.old ch.there)));
 }
 
-pub server-comes : (block : List ℕ) (link n now i : ℕ) (end : ClientEnd) (lanes new : List Lane) (a b : Shown) (t : Things) → Stands end lanes a t → IsPlace link (length lanes) (Some i) → IsSoundShown b
-    → ChangesAt i lanes new (λ old l. (x : things.Lane) → IsLane old x → FeedsLane n now x a l b) → Comes block (happenings.ToServer link n now) t end new b
-server-comes block link n now i end lanes new a b t st place sound ch =
-    let p = at-place link i end lanes new a t (λ x c l. FeedsLane n now x c l b) st place ch in
-    subst (λ (ls : List Lane). Comes block (happenings.ToServer link n now) t end ls b) (sym p.set_there) (server-by block link n now end lanes a b t p.lane st place.0 p.last sound p.done)
+pub server-comes : (server : Server) (told : Bool) (link n now i : ℕ) (end : ClientEnd) (lanes new : List Lane) (a b : Shown) (t : Things) → Stands end lanes a t → IsPlace link (length lanes) (Some i) → IsSoundShown b → IsSure server.answered told
+    → ChangesAt i lanes new (λ old l. (x : things.Lane) → IsLane old x → FeedsLane told n now x a l b) → Comes server (happenings.ToServer link n now) t end new b
+server-comes server told link n now i end lanes new a b t st place sound sure ch =
+    let p = at-place link i end lanes new a t (λ x c l. FeedsLane told n now x c l b) st place ch in
+    subst (λ (ls : List Lane). Comes server (happenings.ToServer link n now) t end ls b) (sym p.set_there) (server-by server told link n now end lanes a b t p.lane st place.0 p.last sound sure p.done)
 
-pub quiet-comes : (block : List ℕ) (link now i : ℕ) (end : ClientEnd) (lanes new : List Lane) (a b : Shown) (t : Things) → Stands end lanes a t → IsPlace link (length lanes) (Some i) → IsSoundShown b
-    → ChangesAt i lanes new (λ old l. (x : things.Lane) → IsLane old x → IdlesLane now x a l b) → Comes block (happenings.Quiet link now) t end new b
-quiet-comes block link now i end lanes new a b t st place sound ch =
+pub quiet-comes : (server : Server) (link now i : ℕ) (end : ClientEnd) (lanes new : List Lane) (a b : Shown) (t : Things) → Stands end lanes a t → IsPlace link (length lanes) (Some i) → IsSoundShown b
+    → ChangesAt i lanes new (λ old l. (x : things.Lane) → IsLane old x → IdlesLane now x a l b) → Comes server (happenings.Quiet link now) t end new b
+quiet-comes server link now i end lanes new a b t st place sound ch =
     let p = at-place link i end lanes new a t (λ x c l. IdlesLane now x c l b) st place ch in
-    subst (λ (ls : List Lane). Comes block (happenings.Quiet link now) t end ls b) (sym p.set_there) (quiet-by block link now end lanes a b t p.lane st place.0 p.last sound p.done)
+    subst (λ (ls : List Lane). Comes server (happenings.Quiet link now) t end ls b) (sym p.set_there) (quiet-by server link now end lanes a b t p.lane st place.0 p.last sound p.done)
 
-pub lost-comes : (block : List ℕ) (link now i : ℕ) (end : ClientEnd) (lanes new : List Lane) (a b : Shown) (t : Things) → Stands end lanes a t → IsPlace link (length lanes) (Some i) → IsSoundShown b
-    → ChangesAt i lanes new (λ old l. (x : things.Lane) → IsLane old x → LosesLane now x a l b) → Comes block (happenings.Lost link now) t end new b
-lost-comes block link now i end lanes new a b t st place sound ch =
-    let p = at-place link i end lanes new a t (λ x c l. LosesLane now x c l b) st place ch in
-    subst (λ (ls : List Lane). Comes block (happenings.Lost link now) t end ls b) (sym p.set_there) (lost-by block link now end lanes a b t p.lane st place.0 p.last sound p.done)
+pub lost-comes : (server : Server) (told : Bool) (link now i : ℕ) (end : ClientEnd) (lanes new : List Lane) (a b : Shown) (t : Things) → Stands end lanes a t → IsPlace link (length lanes) (Some i) → IsSoundShown b → IsSure server.answered told
+    → ChangesAt i lanes new (λ old l. (x : things.Lane) → IsLane old x → LosesLane told now x a l b) → Comes server (happenings.Lost link now) t end new b
+lost-comes server told link now i end lanes new a b t st place sound sure ch =
+    let p = at-place link i end lanes new a t (λ x c l. LosesLane told now x c l b) st place ch in
+    subst (λ (ls : List Lane). Comes server (happenings.Lost link now) t end ls b) (sym p.set_there) (lost-by server told link now end lanes a b t p.lane st place.0 p.last sound sure p.done)
 
 -- there is no such link
 no-link : (link : ℕ) (end : ClientEnd) (lanes : List Lane) (a : Shown) (t : Things) → Stands end lanes a t → IsPlace link (length lanes) None → 0 < link → link ≤ suc t.top → ⊥
 no-link link end lanes a t st place first last = place first (omega (arith, last, st.size))
 
-pub server-none : (block : List ℕ) (link n now : ℕ) (end : ClientEnd) (lanes : List Lane) (a : Shown) (t : Things) → Stands end lanes a t → IsPlace link (length lanes) None → Comes block (happenings.ToServer link n now) t end lanes a
-server-none block link n now end lanes a t st place = skipped block (happenings.ToServer link n now) t end lanes a st (λ can. no-link link end lanes a t st place can.end.begun.first can.end.begun.last)
+pub server-none : (server : Server) (link n now : ℕ) (end : ClientEnd) (lanes : List Lane) (a : Shown) (t : Things) → Stands end lanes a t → IsPlace link (length lanes) None → Comes server (happenings.ToServer link n now) t end lanes a
+server-none server link n now end lanes a t st place = skipped server (happenings.ToServer link n now) t end lanes a st (λ can. no-link link end lanes a t st place can.end.begun.first can.end.begun.last)
 
-pub quiet-none : (block : List ℕ) (link now : ℕ) (end : ClientEnd) (lanes : List Lane) (a : Shown) (t : Things) → Stands end lanes a t → IsPlace link (length lanes) None → Comes block (happenings.Quiet link now) t end lanes a
-quiet-none block link now end lanes a t st place = skipped block (happenings.Quiet link now) t end lanes a st (λ can. no-link link end lanes a t st place can.end.begun.first can.end.begun.last)
+pub quiet-none : (server : Server) (link now : ℕ) (end : ClientEnd) (lanes : List Lane) (a : Shown) (t : Things) → Stands end lanes a t → IsPlace link (length lanes) None → Comes server (happenings.Quiet link now) t end lanes a
+quiet-none server link now end lanes a t st place = skipped server (happenings.Quiet link now) t end lanes a st (λ can. no-link link end lanes a t st place can.end.begun.first can.end.begun.last)
 
-pub lost-none : (block : List ℕ) (link now : ℕ) (end : ClientEnd) (lanes : List Lane) (a : Shown) (t : Things) → Stands end lanes a t → IsPlace link (length lanes) None → Comes block (happenings.Lost link now) t end lanes a
-lost-none block link now end lanes a t st place = skipped block (happenings.Lost link now) t end lanes a st (λ can. no-link link end lanes a t st place can.begun.first can.begun.last)
+pub lost-none : (server : Server) (link now : ℕ) (end : ClientEnd) (lanes : List Lane) (a : Shown) (t : Things) → Stands end lanes a t → IsPlace link (length lanes) None → Comes server (happenings.Lost link now) t end lanes a
+lost-none server link now end lanes a t st place = skipped server (happenings.Lost link now) t end lanes a st (λ can. no-link link end lanes a t st place can.begun.first can.begun.last)
 
 -- ---- others ask
 
-pub others-come : (block : List ℕ) (now : ℕ) (link : LinkNumber) (ask : serial.Ask) (end : ClientEnd) (lanes : List Lane) (a b : Shown) (t : Things) (answer : tolds.Told) → Stands end lanes a t → IsSoundShown b → Asked a now link ask answer b
-    → Comes block (happenings.Others now link ask) t end lanes b
-others-come block now link ask end lanes a b t answer st sound asks =
+pub others-come : (server : Server) (now : ℕ) (link : LinkNumber) (ask : serial.Ask) (end : ClientEnd) (lanes : List Lane) (a b : Shown) (t : Things) (answer : tolds.Told) → Stands end lanes a t → IsSoundShown b → Asked a now link ask answer b
+    → Comes server (happenings.Others now link ask) t end lanes b
+others-come server now link ask end lanes a b t answer st sound asks =
     let there : Asked t.shown now link ask answer b = subst (λ (c : Shown). Asked c now link ask answer b) (sym st.shown_is) asks in
     let s : Things = record { client = t.client; top = t.top; lanes = t.lanes; shown = b; calls = t.calls; results = t.results } in
     record {
@@ -245,7 +248,7 @@ others-come block now link ask end lanes a b t answer st sound asks =
       happens = inl record {
         can = tt;
         are = refl;
-        steps = (s, record { does = record { told = answer; asked = there; lanes = λ j. refl; top = refl; stays = record { client = refl; calls = refl; results = refl } }; sound = sound; went_on = asked-goes t.shown b now link ask answer there }, refl);
+        steps = (s, record { does = record { told = answer; asked = there; lanes = λ j. refl; top = refl; stays = record { client = refl; calls = refl; results = refl } }; sound = sound; went_on = asked-goes t.shown b now link ask answer there; answered = λ e. tt }, refl);
       };
       stands = record { client = st.client; most = st.most; results = st.results; shown_is = refl; size = st.size; each = st.each };
     }
@@ -265,9 +268,9 @@ moved-end (Some w) l new x y end ended wire fed = record {
   most = omega (arith, end.most, fed);
 }
 
-asks-by : (block : List ℕ) (call : grammar.Call) (end new_end : ClientEnd) (lanes : List Lane) (a : Shown) (t : Things) (old l : Lane) → Stands end lanes a t → IsSoundShown a → IsLane old (t.lanes t.top) → AsksNear call end old new_end l
-    → Comes block (happenings.Asks call) t new_end (slice_set lanes t.top l) a
-asks-by block call end new_end lanes a t old l st sound is (inl k) =
+asks-by : (server : Server) (call : grammar.Call) (end new_end : ClientEnd) (lanes : List Lane) (a : Shown) (t : Things) (old l : Lane) → Stands end lanes a t → IsSoundShown a → IsLane old (t.lanes t.top) → AsksNear call end old new_end l
+    → Comes server (happenings.Asks call) t new_end (slice_set lanes t.top l) a
+asks-by server call end new_end lanes a t old l st sound is (inl k) =
     let x : things.Lane = t.lanes t.top in
     let frame : List ℕ = canonical_frame (call_frame t.client.state.next_id call) in
     let y : things.Lane = record { wire = x.wire; ended = x.ended; up = x.up ++ frame; down = x.down } in
@@ -299,6 +302,7 @@ asks-by block call end new_end lanes a t old l st sound is (inl k) =
             };
             sound = subst IsSoundShown (sym st.shown_is) sound;
             went_on = same-goes t.shown t.shown refl;
+            answered = λ e. tt;
           },
           refl,
         );
@@ -307,8 +311,8 @@ asks-by block call end new_end lanes a t old l st sound is (inl k) =
           (let same : came_to new_end.client ≡ came_to end.client = ap came_to k.client_is in omega (arith, same, k.came, st.most)) (st.results ∙ sym k.results) st.shown_is
           (record { top = refl; here = here; others = λ j off. put-off t.top y t.lanes j off }) (subst (λ (z : Lane). IsLane z y) (sym k.up) held);
     }
-asks-by block call end new_end lanes a t old l st sound is (inr (cannot, same, same_lane)) =
-    skipped block (happenings.Asks call) t new_end (slice_set lanes t.top l) a
+asks-by server call end new_end lanes a t old l st sound is (inr (cannot, same, same_lane)) =
+    skipped server (happenings.Asks call) t new_end (slice_set lanes t.top l) a
     (stands-set end new_end lanes a a t t t.top l (t.lanes t.top) st (st.client ∙ ap (λ (e : ClientEnd). e.client) (sym same)) (subst (λ (e : ClientEnd). came_to e.client ≤ e.came) (sym same) st.most)
     (st.results ∙ ap (λ (e : ClientEnd). e.results.items) (sym same)) st.shown_is (record { top = refl; here = refl; others = λ j off. refl }) (subst (λ (z : Lane). IsLane z (t.lanes t.top)) (sym same_lane) is))
     (λ can. cannot (subst (λ (c : Client). IsReady c.state) st.client can.ready) can.takes_call)
@@ -317,12 +321,12 @@ asks-by block call end new_end lanes a t old l st sound is (inr (cannot, same, s
 newest-is : (i : ℕ) (end : ClientEnd) (lanes : List Lane) (a : Shown) (t : Things) → Stands end lanes a t → i ≡ length lanes - 1 → i ≡ t.top
 newest-is i end lanes a t st e = omega (arith, e, st.size)
 
-pub asks-come : (block : List ℕ) (call : grammar.Call) (i : ℕ) (end new_end : ClientEnd) (lanes new : List Lane) (a : Shown) (t : Things) → Stands end lanes a t → IsSoundShown a → i ≡ length lanes - 1
-    → ChangesAt i lanes new (λ old l. AsksNear call end old new_end l) → Comes block (happenings.Asks call) t new_end new a
-asks-come block call i end new_end lanes new a t st sound newest ch0 =
+pub asks-come : (server : Server) (call : grammar.Call) (i : ℕ) (end new_end : ClientEnd) (lanes new : List Lane) (a : Shown) (t : Things) → Stands end lanes a t → IsSoundShown a → i ≡ length lanes - 1
+    → ChangesAt i lanes new (λ old l. AsksNear call end old new_end l) → Comes server (happenings.Asks call) t new_end new a
+asks-come server call i end new_end lanes new a t st sound newest ch0 =
     let ch = subst (λ (j : ℕ). ChangesAt j lanes new (λ old l. AsksNear call end old new_end l)) (newest-is i end lanes a t st newest) ch0 in
-    subst (λ (ls : List Lane). Comes block (happenings.Asks call) t new_end ls a) (sym ch.set_there)
-    (asks-by block call end new_end lanes a t ch.old ch.new st sound (st.each t.top ch.old ch.there) ch.changed)
+    subst (λ (ls : List Lane). Comes server (happenings.Asks call) t new_end ls a) (sym ch.set_there)
+    (asks-by server call end new_end lanes a t ch.old ch.new st sound (st.each t.top ch.old ch.there) ch.changed)
 
 -- ---- bytes come to the client
 
@@ -363,10 +367,10 @@ taken-near t d event m n k =
       results = k.results;
     }
 
-takings-steps : (t : Things) (d : List ℕ) (m n : Near) (es : List Event) (last : Event) → IsSoundShown t.shown → Takings m es last n → Steps (with_near t d m) (map doings.Takes es ++ doings.Takes last ∷ []) (with_near t d n)
-takings-steps t d m n [] last sound k = (with_near t d n, record { does = taken-near t d last m n k; sound = sound; went_on = same-goes t.shown t.shown refl }, refl)
-takings-steps t d m n (e ∷ es) last sound (mid, goes, k, rest) =
-    (with_near t d mid, record { does = taken-near t d e m mid k; sound = sound; went_on = same-goes t.shown t.shown refl }, takings-steps t d mid n es last sound rest)
+takings-steps : (server : Server) (t : Things) (d : List ℕ) (m n : Near) (es : List Event) (last : Event) → IsSoundShown t.shown → Takings m es last n → Steps server (with_near t d m) (map doings.Takes es ++ doings.Takes last ∷ []) (with_near t d n)
+takings-steps server t d m n [] last sound k = (with_near t d n, record { does = taken-near t d last m n k; sound = sound; went_on = same-goes t.shown t.shown refl; answered = λ e. tt }, refl)
+takings-steps server t d m n (e ∷ es) last sound (mid, goes, k, rest) =
+    (with_near t d mid, record { does = taken-near t d e m mid k; sound = sound; went_on = same-goes t.shown t.shown refl; answered = λ e. tt }, takings-steps server t d mid n es last sound rest)
 
 takings-go : (m n : Near) (es : List Event) (last : Event) → Takings m es last n → AllByRecursion GoesOn es
 takings-go m n [] last k = tt
@@ -375,9 +379,9 @@ takings-go m n (e ∷ es) last (mid, goes, k, rest) = (goes, takings-go mid n es
 drop-least : (n r : ℕ) (xs : List ℕ) → drop (min (min (length xs) n) r) xs ≡ drop (min n r) xs
 drop-least n r xs = ap (λ (k : ℕ). drop k xs) (let e : min (min (length xs) n) r ≡ min (min n r) (length xs) = omega arith in e) ∙ drop_min (min n r) xs
 
-brings-by : (block : List ℕ) (link n : ℕ) (end new_end : ClientEnd) (lanes : List Lane) (a : Shown) (t : Things) (old l : Lane) → Stands end lanes a t → IsSoundShown a → link ≡ suc t.top → IsLane old (t.lanes t.top)
-    → BringsNear n end old new_end l → Comes block (happenings.ToClient link n) t new_end (slice_set lanes t.top l) a
-brings-by block link n end new_end lanes a t old l st sound0 newest is k =
+brings-by : (server : Server) (link n : ℕ) (end new_end : ClientEnd) (lanes : List Lane) (a : Shown) (t : Things) (old l : Lane) → Stands end lanes a t → IsSoundShown a → link ≡ suc t.top → IsLane old (t.lanes t.top)
+    → BringsNear n end old new_end l → Comes server (happenings.ToClient link n) t new_end (slice_set lanes t.top l) a
+brings-by server link n end new_end lanes a t old l st sound0 newest is k =
     let x : things.Lane = t.lanes t.top in
     let sound : IsSoundShown t.shown = subst IsSoundShown (sym st.shown_is) sound0 in
     let d : List ℕ = drop k.size old.down in
@@ -416,8 +420,9 @@ brings-by block link n end new_end lanes a t old l st sound0 newest is k =
             };
             sound = sound;
             went_on = same-goes t.shown t.shown refl;
+            answered = λ e. tt;
           },
-          takings-steps t d m (near new_end l.up) k.takes.events k.takes.last sound k.takes.takings,
+          takings-steps server t d m (near new_end l.up) k.takes.events k.takes.last sound k.takes.takings,
         );
       };
       stands = stands-set end new_end lanes a a t s t.top l (near_lane t d (near new_end l.up)) st refl k.most refl st.shown_is
@@ -425,26 +430,26 @@ brings-by block link n end new_end lanes a t old l st sound0 newest is k =
           (record { up = refl; down = sym k.down; end = subst (λ (o : Option WireState). HasEnd o l (near_lane t d (near new_end l.up))) (sym k.wire) (moved-end old.wire old l x (near_lane t d (near new_end l.up)) is.end refl refl k.fed_same) });
     }
 
-pub brings-come : (block : List ℕ) (link n i : ℕ) (end new_end : ClientEnd) (lanes new : List Lane) (a : Shown) (t : Things) → Stands end lanes a t → IsSoundShown a → link ≡ length lanes → i ≡ length lanes - 1
-    → ChangesAt i lanes new (λ old l. BringsNear n end old new_end l) → Comes block (happenings.ToClient link n) t new_end new a
-brings-come block link n i end new_end lanes new a t st sound is newest ch0 =
+pub brings-come : (server : Server) (link n i : ℕ) (end new_end : ClientEnd) (lanes new : List Lane) (a : Shown) (t : Things) → Stands end lanes a t → IsSoundShown a → link ≡ length lanes → i ≡ length lanes - 1
+    → ChangesAt i lanes new (λ old l. BringsNear n end old new_end l) → Comes server (happenings.ToClient link n) t new_end new a
+brings-come server link n i end new_end lanes new a t st sound is newest ch0 =
     let ch = subst (λ (j : ℕ). ChangesAt j lanes new (λ old l. BringsNear n end old new_end l)) (newest-is i end lanes a t st newest) ch0 in
-    subst (λ (ls : List Lane). Comes block (happenings.ToClient link n) t new_end ls a) (sym ch.set_there)
-    (brings-by block link n end new_end lanes a t ch.old ch.new st sound (is ∙ st.size) (st.each t.top ch.old ch.there) ch.changed)
+    subst (λ (ls : List Lane). Comes server (happenings.ToClient link n) t new_end ls a) (sym ch.set_there)
+    (brings-by server link n end new_end lanes a t ch.old ch.new st sound (is ∙ st.size) (st.each t.top ch.old ch.there) ch.changed)
 
-pub brings-none : (block : List ℕ) (link n : ℕ) (end : ClientEnd) (lanes : List Lane) (a : Shown) (t : Things) → Stands end lanes a t → (link ≡ length lanes → ⊥) → Comes block (happenings.ToClient link n) t end lanes a
-brings-none block link n end lanes a t st off = skipped block (happenings.ToClient link n) t end lanes a st (λ can. off (can ∙ sym st.size))
+pub brings-none : (server : Server) (link n : ℕ) (end : ClientEnd) (lanes : List Lane) (a : Shown) (t : Things) → Stands end lanes a t → (link ≡ length lanes → ⊥) → Comes server (happenings.ToClient link n) t end lanes a
+brings-none server link n end lanes a t st off = skipped server (happenings.ToClient link n) t end lanes a st (λ can. off (can ∙ sym st.size))
 
 -- ---- a link breaks, and the next one begins
 
-breaks-by : (block : List ℕ) (end new_end : ClientEnd) (lanes : List Lane) (a : Shown) (t : Things) (mid : Client) (lane : Lane) → Stands end lanes a t → IsSoundShown a → mid ≡ record { state = broken end.client.state; held = record { place = 0; rest = [] } }
-    → BeginsLane block mid lane new_end.client → new_end.came ≡ 0 → new_end.results.items ≡ end.results.items → Comes block happenings.Breaks t new_end (lanes ++ lane ∷ []) a
-breaks-by block end new_end lanes a t mid lane st sound0 broke b none same =
+breaks-by : (server : Server) (end new_end : ClientEnd) (lanes : List Lane) (a : Shown) (t : Things) (mid : Client) (lane : Lane) → Stands end lanes a t → IsSoundShown a → mid ≡ record { state = broken end.client.state; held = record { place = 0; rest = [] } }
+    → BeginsLane server.block mid lane new_end.client → new_end.came ≡ 0 → new_end.results.items ≡ end.results.items → Comes server happenings.Breaks t new_end (lanes ++ lane ∷ []) a
+breaks-by server end new_end lanes a t mid lane st sound0 broke b none same =
     let sound : IsSoundShown t.shown = subst IsSoundShown (sym st.shown_is) sound0 in
     let c : Client = record { state = begun (broken t.client.state); held = record { place = 0; rest = [] } } in
-    let s : Things = record { client = c; top = suc t.top; lanes = put (suc t.top) (begun_lane block) t.lanes; shown = t.shown; calls = t.calls; results = t.results } in
-    let here : s.lanes (suc t.top) ≡ begun_lane block = put-here (suc t.top) (begun_lane block) t.lanes (suc t.top) refl in
-    let others : (j : ℕ) → j ≢ suc t.top → s.lanes j ≡ t.lanes j = λ j off. put-off (suc t.top) (begun_lane block) t.lanes j off in
+    let s : Things = record { client = c; top = suc t.top; lanes = put (suc t.top) (begun_lane server.block) t.lanes; shown = t.shown; calls = t.calls; results = t.results } in
+    let here : s.lanes (suc t.top) ≡ begun_lane server.block = put-here (suc t.top) (begun_lane server.block) t.lanes (suc t.top) refl in
+    let others : (j : ℕ) → j ≢ suc t.top → s.lanes j ≡ t.lanes j = λ j off. put-off (suc t.top) (begun_lane server.block) t.lanes j off in
     let is : new_end.client ≡ c =
     b.client ∙ ap (λ (x : Client). record { state = begun x.state; held = record { place = 0; rest = [] } }) broke
     ∙ ap (λ (x : Client). record { state = begun (broken x.state); held = record { place = 0; rest = [] } }) (sym st.client) in
@@ -454,15 +459,15 @@ breaks-by block end new_end lanes a t mid lane st sound0 broke b none same =
       happens = inl record {
         can = tt;
         are = record { are = refl; serves = ap (λ (l : things.Lane). l.wire.block) here };
-        steps = (s, record { does = record { client = refl; block = block; top = refl; lane = here; others = others; calls = refl; results = refl; shown = refl }; sound = sound; went_on = same-goes t.shown t.shown refl }, refl);
+        steps = (s, record { does = record { client = refl; block = server.block; top = refl; lane = here; others = others; calls = refl; results = refl; shown = refl }; sound = sound; went_on = same-goes t.shown t.shown refl; answered = λ e. tt }, refl);
       };
-      stands = stands-more end new_end lanes a a t s lane (begun_lane block) st (sym is) (let size : came_to new_end.client ≡ 0 = ap came_to is in omega (arith, size, none)) (st.results ∙ sym same) st.shown_is refl here others b.begun_is;
+      stands = stands-more end new_end lanes a a t s lane (begun_lane server.block) st (sym is) (let size : came_to new_end.client ≡ 0 = ap came_to is in omega (arith, size, none)) (st.results ∙ sym same) st.shown_is refl here others b.begun_is;
     }
 
-pub breaks-come : (block : List ℕ) (end new_end : ClientEnd) (lanes new : List Lane) (a : Shown) (t : Things) (mid : Client) (lane : Lane) → Stands end lanes a t → IsSoundShown a → mid ≡ record { state = broken end.client.state; held = record { place = 0; rest = [] } }
-    → BeginsLane block mid lane new_end.client → new_end.came ≡ 0 → new_end.results.items ≡ end.results.items → new ≡ lanes ++ lane ∷ [] → Comes block happenings.Breaks t new_end new a
-breaks-come block end new_end lanes new a t mid lane st sound broke b none same more =
-    subst (λ (ls : List Lane). Comes block happenings.Breaks t new_end ls a) (sym more) (breaks-by block end new_end lanes a t mid lane st sound broke b none same)
+pub breaks-come : (server : Server) (end new_end : ClientEnd) (lanes new : List Lane) (a : Shown) (t : Things) (mid : Client) (lane : Lane) → Stands end lanes a t → IsSoundShown a → mid ≡ record { state = broken end.client.state; held = record { place = 0; rest = [] } }
+    → BeginsLane server.block mid lane new_end.client → new_end.came ≡ 0 → new_end.results.items ≡ end.results.items → new ≡ lanes ++ lane ∷ [] → Comes server happenings.Breaks t new_end new a
+breaks-come server end new_end lanes new a t mid lane st sound broke b none same more =
+    subst (λ (ls : List Lane). Comes server happenings.Breaks t new_end ls a) (sym more) (breaks-by server end new_end lanes a t mid lane st sound broke b none same)
 
 -- ---- at the start
 
@@ -487,22 +492,22 @@ first-stands block login a made end lane lanes is b none empty same =
 -- ---- one after the other
 
 -- What happened so far leads to these things, whatever happens then.
-pub record HasCome (block : List ℕ) (hs rest : List Happening) (first : Things) (end : ClientEnd) (lanes : List Lane) (a : Shown) : Type 0 where
+pub record HasCome (server : Server) (hs rest : List Happening) (first : Things) (end : ClientEnd) (lanes : List Lane) (a : Shown) : Type 0 where
   pub now : Things
   pub stands : Stands end lanes a now
-  pub leads : (ds : List Doing) (last : Things) → AllHappen block rest now ds last → (all : List Doing) × AllHappen block hs first all last
+  pub leads : (ds : List Doing) (last : Things) → AllHappen server rest now ds last → (all : List Doing) × AllHappen server hs first all last
 
-pub has-begun : (block : List ℕ) (hs : List Happening) (first : Things) (end : ClientEnd) (lanes : List Lane) (a : Shown) → Stands end lanes a first → HasCome block hs hs first end lanes a
-has-begun block hs first end lanes a st = record { now = first; stands = st; leads = λ ds last all. (ds, all) }
+pub has-begun : (server : Server) (hs : List Happening) (first : Things) (end : ClientEnd) (lanes : List Lane) (a : Shown) → Stands end lanes a first → HasCome server hs hs first end lanes a
+has-begun server hs first end lanes a st = record { now = first; stands = st; leads = λ ds last all. (ds, all) }
 
-pub comes-on : (block : List ℕ) (hs rest later : List Happening) (h : Happening) (first : Things) (end new_end : ClientEnd) (lanes new : List Lane) (a b : Shown) → rest ≡ h ∷ later → HasCome block hs rest first end lanes a
-    → ((t : Things) → Stands end lanes a t → Comes block h t new_end new b) → HasCome block hs later first new_end new b
-comes-on block hs rest later h first end new_end lanes new a b same has comes =
+pub comes-on : (server : Server) (hs rest later : List Happening) (h : Happening) (first : Things) (end new_end : ClientEnd) (lanes new : List Lane) (a b : Shown) → rest ≡ h ∷ later → HasCome server hs rest first end lanes a
+    → ((t : Things) → Stands end lanes a t → Comes server h t new_end new b) → HasCome server hs later first new_end new b
+comes-on server hs rest later h first end new_end lanes new a b same has comes =
     let c = comes has.now has.stands in
     record {
       now = c.last;
       stands = c.stands;
-      leads = λ ds last all. has.leads (c.doings ++ ds) last (subst (λ (l : List Happening). AllHappen block l has.now (c.doings ++ ds) last) (sym same) (c.doings, ds, c.last, c.happens, all, refl));
+      leads = λ ds last all. has.leads (c.doings ++ ds) last (subst (λ (l : List Happening). AllHappen server l has.now (c.doings ++ ds) last) (sym same) (c.doings, ds, c.last, c.happens, all, refl));
     }
 
 -- ---- a link that begins, and links that were lent
@@ -546,10 +551,11 @@ none-behind (suc n) (h ∷ hs) e = none-behind n hs (omega (arith, e))
 pub next-behind : (hs : List Happening) (i : ℕ) (h : Happening) → i < length hs → h ≡ get_or hs i h → drop i hs ≡ h ∷ drop (i + 1) hs
 next-behind hs i h within is = drop-cons hs i h within ∙ (λ j. sym is j ∷ drop (suc i) hs) ∙ ap (λ (k : ℕ). h ∷ drop k hs) (let e : suc i ≡ i + 1 = omega arith in e)
 
-pub all-come : (block : List ℕ) (login : logins.Login) (first : Shown) (hs : List Happening) (n : ℕ) (end : ClientEnd) (lanes : List Lane) (a : Shown) → HappeningsAreSchedules → HappeningsTakeEffectOnce → HasCome block hs (drop n hs) (begun_things block login first) end lanes a → length hs ≤ n
-    → ComesTo block login first hs end.client a end.results.items
-all-come block login first hs n end lanes a schedules once has over =
-    let all = has.leads [] has.now (subst (λ (rest : List Happening). AllHappen block rest has.now [] has.now) (sym (none-behind n hs over)) (refl, refl)) in
+pub all-come : (block : List ℕ) (login : logins.Login) (first : Shown) (hs : List Happening) (n : ℕ) (answered : Bool) (end : ClientEnd) (lanes : List Lane) (a : Shown) → HappeningsAreSchedules → HappeningsTakeEffectOnce
+    → HasCome (record { block = block; answered = answered }) hs (drop n hs) (begun_things block login first) end lanes a → length hs ≤ n → ComesTo block login first hs answered end.client a end.results.items
+all-come block login first hs n answered end lanes a schedules once has over =
+    let server : Server = record { block = block; answered = answered } in
+    let all = has.leads [] has.now (subst (λ (rest : List Happening). AllHappen server rest has.now [] has.now) (sym (none-behind n hs over)) (refl, refl)) in
     record {
       doings = all.0;
       last = has.now;
@@ -557,6 +563,6 @@ all-come block login first hs n end lanes a schedules once has over =
       client_is = has.stands.client;
       shown_is = has.stands.shown_is;
       results_are = has.stands.results;
-      schedule = schedules block login first hs all.0 has.now all.1;
-      once = once block login first hs all.0 has.now all.1;
+      schedule = schedules server login first hs all.0 has.now all.1;
+      once = once server login first hs all.0 has.now all.1;
     }

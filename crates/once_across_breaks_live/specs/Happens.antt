@@ -10,7 +10,7 @@ use Rattle.once_across_breaks_code.specs.run.Things.{Things}
 use Rattle.once_across_breaks_live.specs.declared.happening.Happening.{Happening}
 use Rattle.once_across_breaks_live.specs.declared.happening.Happening.TheVariants as happenings
 use Rattle.once_across_breaks_live.specs.Skips.{CanBe, at_link, place_of}
-use Rattle.once_across_breaks_live.specs.Steps.{Steps}
+use Rattle.once_across_breaks_live.specs.Steps.{Server, Steps}
 
 -- whether the client waits for more bytes, or meets a frame that it does not take
 abbrev pub is_last : Event → Bool
@@ -45,26 +45,26 @@ pub record Comes (n : ℕ) (t : Things) (ds : List Doing) (s : Things) : Type 0 
   pub are : ds ≡ doings.Brings ∷ taken
   pub moved : (s.lanes t.top).down ≡ drop (min n (room t)) (t.lanes t.top).down
 
--- the client begins its next link, of a server with that status block
-pub record Begins (block : List ℕ) (t : Things) (ds : List Doing) (s : Things) : Type 0 where
+-- the client begins its next link, of that server
+pub record Begins (server : Server) (t : Things) (ds : List Doing) (s : Things) : Type 0 where
   pub are : ds ≡ doings.Breaks ∷ []
-  pub serves : (s.lanes (suc t.top)).wire.block ≡ block
+  pub serves : (s.lanes (suc t.top)).wire.block ≡ server.block
 
 -- the steps that a happening makes
-abbrev pub AreStepsOf : List ℕ → Happening → Things → List Doing → Things → Type 0
-AreStepsOf block (happenings.Asks call) t ds s = ds ≡ doings.Asks call ∷ []
-AreStepsOf block (happenings.ToServer link n now) t ds s = Reaches link n now t ds s
-AreStepsOf block (happenings.ToClient link n) t ds s = Comes n t ds s
-AreStepsOf block (happenings.Quiet link now) t ds s = ds ≡ doings.Quiets (place_of link) now ∷ []
-AreStepsOf block (happenings.Lost link now) t ds s = ds ≡ doings.Loses (place_of link) now ∷ []
-AreStepsOf block happenings.Breaks t ds s = Begins block t ds s
-AreStepsOf block (happenings.Others now link ask) t ds s = ds ≡ doings.Others now link ask ∷ []
+abbrev pub AreStepsOf : Server → Happening → Things → List Doing → Things → Type 0
+AreStepsOf server (happenings.Asks call) t ds s = ds ≡ doings.Asks call ∷ []
+AreStepsOf server (happenings.ToServer link n now) t ds s = Reaches link n now t ds s
+AreStepsOf server (happenings.ToClient link n) t ds s = Comes n t ds s
+AreStepsOf server (happenings.Quiet link now) t ds s = ds ≡ doings.Quiets (place_of link) now ∷ []
+AreStepsOf server (happenings.Lost link now) t ds s = ds ≡ doings.Loses (place_of link) now ∷ []
+AreStepsOf server happenings.Breaks t ds s = Begins server t ds s
+AreStepsOf server (happenings.Others now link ask) t ds s = ds ≡ doings.Others now link ask ∷ []
 
 -- It can be, and makes its steps.
-pub record IsDone (block : List ℕ) (h : Happening) (t : Things) (ds : List Doing) (s : Things) : Type 0 where
+pub record IsDone (server : Server) (h : Happening) (t : Things) (ds : List Doing) (s : Things) : Type 0 where
   pub can : CanBe h t
-  pub are : AreStepsOf block h t ds s
-  pub steps : Steps t ds s
+  pub are : AreStepsOf server h t ds s
+  pub steps : Steps server t ds s
 
 -- It cannot be, and nothing is done.
 pub record IsSkipped (h : Happening) (t : Things) (ds : List Doing) (s : Things) : Type 0 where
@@ -72,10 +72,10 @@ pub record IsSkipped (h : Happening) (t : Things) (ds : List Doing) (s : Things)
   pub none : ds ≡ []
   pub same : s ≡ t
 
-abbrev pub Happens : List ℕ → Happening → Things → List Doing → Things → Type 0
-Happens block h t ds s = IsDone block h t ds s ⊎ IsSkipped h t ds s
+abbrev pub Happens : Server → Happening → Things → List Doing → Things → Type 0
+Happens server h t ds s = IsDone server h t ds s ⊎ IsSkipped h t ds s
 
 -- one after the other
-abbrev pub AllHappen : List ℕ → List Happening → Things → List Doing → Things → Type 0
-AllHappen block [] t ds s = (ds ≡ []) × (s ≡ t)
-AllHappen block (h ∷ hs) t ds s = (first : List Doing) × (rest : List Doing) × (mid : Things) × Happens block h t first mid × AllHappen block hs mid rest s × (ds ≡ first ++ rest)
+abbrev pub AllHappen : Server → List Happening → Things → List Doing → Things → Type 0
+AllHappen server [] t ds s = (ds ≡ []) × (s ≡ t)
+AllHappen server (h ∷ hs) t ds s = (first : List Doing) × (rest : List Doing) × (mid : Things) × Happens server h t first mid × AllHappen server hs mid rest s × (ds ≡ first ++ rest)

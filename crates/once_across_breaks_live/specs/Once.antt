@@ -1,10 +1,12 @@
 -- What a client, the server ends of its links and the teller come to (this profile).
-use Rattle.std.specs.Prelude.{◌≡◌, ◌⊎◌, ℕ, ◌<◌, true, List, [], Some}
+use Rattle.std.specs.Prelude.{◌≡◌, ◌⊎◌, ℕ, ◌<◌, Bool, true, List, [], Some}
 use Rattle.std.specs.List.{AllByRecursion}
 use Rattle.afp_base.specs.Cached.{Answer}
 use Rattle.afp_client.specs.session.State.{Client}
 use Rattle.afp_client.specs.declared.session.login.Login as logins
+use Rattle.afp_serial.specs.History.{stand}
 use Rattle.afp_serial.specs.Shown.{IsSoundShown, Shown}
+use Rattle.afp_serial.specs.StatusBlock.{status_block}
 use Rattle.afp_serial.specs.Token.{session_token}
 use Rattle.once_across_breaks.specs.once.Run.{Event}
 use Rattle.once_across_breaks.specs.once.Serial.{IsSoundUnder, Setup}
@@ -20,6 +22,7 @@ use Rattle.once_across_breaks_code.specs.run.Things.{Things, begun_things}
 use Rattle.once_across_breaks_live.specs.declared.happening.Happening.{Happening}
 use Rattle.once_across_breaks_live.specs.declared.happening.Happening.TheVariants as happenings
 use Rattle.once_across_breaks_live.specs.Happens.{AllHappen}
+use Rattle.once_across_breaks_live.specs.Steps.{Server}
 
 -- a frame can carry what others ask
 abbrev pub CanCarry : Happening → Type 0
@@ -58,11 +61,16 @@ abbrev pub TakeEffectOnce : List ℕ → logins.Login → Shown → List Happeni
 TakeEffectOnce block login first hs ds last =
     (u : Setup) → LogsIn u login → IsSoundShown first → first.history ≡ [] → IsSoundUnder u.key first.start → IsOnce u hs (begun_things block login first) ds last
 
+-- the status block of the house that a teller serves
+abbrev pub block_of : Shown → List ℕ
+block_of a = status_block (stand a.start a.history).house
+
 -- The happenings lead to these things, from a client that has begun its first link: its own state, what the teller shows, and the results are theirs.
-pub record ComesTo (block : List ℕ) (login : logins.Login) (first : Shown) (hs : List Happening) (client : Client) (shown : Shown) (results : List Answer) : Type 0 where
+-- Where it is told so, all that reached a server end was answered, and each loss of one.
+pub record ComesTo (block : List ℕ) (login : logins.Login) (first : Shown) (hs : List Happening) (answered : Bool) (client : Client) (shown : Shown) (results : List Answer) : Type 0 where
   pub doings : List Doing
   pub last : Things
-  pub happened : AllHappen block hs (begun_things block login first) doings last
+  pub happened : AllHappen (record { block = block; answered = answered }) hs (begun_things block login first) doings last
   pub client_is : last.client ≡ client
   pub shown_is : last.shown ≡ shown
   pub results_are : last.results ≡ results
@@ -72,11 +80,11 @@ pub record ComesTo (block : List ℕ) (login : logins.Login) (first : Shown) (hs
 -- The laws: whatever happens is a schedule,
 abbrev pub HappeningsAreSchedules : Type 0
 HappeningsAreSchedules =
-    (block : List ℕ) (login : logins.Login) (first : Shown) (hs : List Happening) (doings : List Doing) (last : Things)
-    → AllHappen block hs (begun_things block login first) doings last → IsScheduled login first hs last
+    (server : Server) (login : logins.Login) (first : Shown) (hs : List Happening) (doings : List Doing) (last : Things)
+    → AllHappen server hs (begun_things server.block login first) doings last → IsScheduled login first hs last
 
 -- and is a run by which each command takes effect once, in order, where it keeps the premises.
 abbrev pub HappeningsTakeEffectOnce : Type 0
 HappeningsTakeEffectOnce =
-    (block : List ℕ) (login : logins.Login) (first : Shown) (hs : List Happening) (doings : List Doing) (last : Things)
-    → AllHappen block hs (begun_things block login first) doings last → TakeEffectOnce block login first hs doings last
+    (server : Server) (login : logins.Login) (first : Shown) (hs : List Happening) (doings : List Doing) (last : Things)
+    → AllHappen server hs (begun_things server.block login first) doings last → TakeEffectOnce server.block login first hs doings last

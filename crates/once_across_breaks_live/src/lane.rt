@@ -1,11 +1,11 @@
 //! A link: its server end, and the bytes under way on it.
-ghost use Rattle.std.specs.Prelude.{◌≡◌, ◌≢◌, ◌+◌, ◌<◌, ◌≤◌, false, List, ℕ, None, Some, length, slice_get, OnOk, IfOk};
+ghost use Rattle.std.specs.Prelude.{◌≡◌, ◌≢◌, ◌+◌, ◌<◌, ◌≤◌, true, false, List, ℕ, None, Some, length, slice_get, IfOk};
 ghost use Rattle.afp_serial.specs.Answered.{told_of};
-ghost use Rattle.afp_server.specs.link.Wire.{PartsBy};
+ghost use Rattle.afp_serial.specs.declared.ask.Told.{Told};
 ghost use Rattle.afp_server.specs.declared.link.stage.Stage.{Stage};
 ghost use Rattle.once_across_breaks_code.specs.run.Doings.{is_displaced};
 ghost use Rattle.once_across_breaks_code.specs.run.Things as things;
-ghost use Rattle.once_across_breaks_live.specs.lemma.Lanes.{ChangesAt, FedWith, FeedsLane, IdlesLane, IsLane, IsStill, LosesLane, open_at};
+ghost use Rattle.once_across_breaks_live.specs.lemma.Lanes.{ChangesAt, FedWith, FeedsLane, IdlesLane, IsLane, IsStill, LosesLane, PartsTold, open_at};
 
 use crate::flight::{moved, take_away};
 use afp_base::{Bytes, LinkNumber, Moment, OutOfMemory};
@@ -52,7 +52,7 @@ fn is_displaced(answered: Answered) -> bool
 }
 
 impl Lane {
-    /// Feeds the first bytes under way to the server end.
+    /// Feeds the first bytes under way to the server end, and says whether they were answered.
     fn feed_wire<T: Teller>(
         &mut self,
         alloc: Global,
@@ -60,42 +60,44 @@ impl Lane {
         size: usize,
         now: Moment,
         teller: &mut T,
-    ) -> Result<(), OutOfMemory>
+    ) -> Result<bool, OutOfMemory>
         requires within { size ≤ length self.old.up }
         requires goes_on { begun.end ≡ None }
         requires live { begun.stage ≢ Stage.Closing }
         requires most { begun.held.place + length begun.held.rest ≤ self.old.fed }
-        ensures { OnOk result (FedWith size now begun self.old (T.shown teller.old) self.new (T.shown teller.new)) }
+        ensures { IfOk result (λ told. FedWith told size now begun self.old (T.shown teller.old) self.new (T.shown teller.new)) }
     {
         let Some(fed) = self.fed.checked_add(size as u64) else {
             return Err(OutOfMemory);
         };
         let mut wire = begun;
         let end = wire.feed(&self.up.as_slice()[..size], now, teller, &mut self.down);
+        let told = wire.tally().answered;
         let there = still(wire, end)?;
         self.wire = there;
         self.fed = fed;
         bytes_in_range(self.down.as_slice());
-        take_away(alloc, &mut self.up, size)
+        take_away(alloc, &mut self.up, size)?;
+        Ok(told)
     }
 
-    /// At most so many bytes under way reach the server end; its replies are under way then.
+    /// At most so many bytes under way reach the server end; its replies are under way then. Says whether they were answered.
     pub(crate) fn feed<T: Teller>(
         &mut self,
         alloc: Global,
         most: u32,
         now: Moment,
         teller: &mut T,
-    ) -> Result<(), OutOfMemory>
+    ) -> Result<bool, OutOfMemory>
         requires { (x : things.Lane) × IsLane self.old x }
-        ensures { OnOk result ((x : things.Lane) → IsLane self.old x → FeedsLane most now x (T.shown teller.old) self.new (T.shown teller.new)) }
+        ensures { IfOk result (λ told. (x : things.Lane) → IsLane self.old x → FeedsLane told most now x (T.shown teller.old) self.new (T.shown teller.new)) }
     {
         let size = moved(&self.up, most);
         if size == 0 {
-            return Ok(());
+            return Ok(true);
         }
         match self.wire.take() {
-            None => Ok(()),
+            None => Ok(true),
             Some(wire) => self.feed_wire(alloc, wire, size, now, teller),
         }
     }
@@ -133,26 +135,42 @@ impl Lane {
         }
     }
 
-    /// The server end is lost.
-    pub(crate) fn lose<T: Teller>(&mut self, now: Moment, teller: &mut T)
-        ensures { (x : things.Lane) → IsLane self.old x → LosesLane now x (T.shown teller.old) self.new (T.shown teller.new) }
+    /// The server end is lost. Says whether that was answered.
+    pub(crate) fn lose<T: Teller>(&mut self, now: Moment, teller: &mut T) -> bool
+        ensures { (x : things.Lane) → IsLane self.old x → LosesLane result now x (T.shown teller.old) self.new (T.shown teller.new) }
     {
         match self.wire.take() {
-            None => {}
-            Some(wire) => lose_wire(wire, now, teller),
+            None => true,
+            Some(wire) => lose_wire(&wire, now, teller),
         }
     }
 }
 
-/// The end of a wire that is lost.
-fn lose_wire<T: Teller>(begun: Wire, now: Moment, teller: &mut T)
-    ensures { PartsBy begun.stage now (T.shown teller.old) (T.shown teller.new) }
+/// An ask was answered, and not told want of memory.
+fn is_told(answered: Answered) -> bool
+    ensures { (out : List ℕ) → result ≡ true → told_of answered out ≢ Told.Memory }
 {
-    let mut wire = begun;
-    wire.lost(now, teller);
+    match answered {
+        Answered::Memory => false,
+        Answered::Opened { .. }
+        | Answered::Reply { .. }
+        | Answered::Live { .. }
+        | Answered::Done
+        | Answered::Displaced => true,
+    }
 }
 
-/// At most so many bytes reach the server end of the link at a place.
+/// A wire is lost: a session that is open there asks Lost. Says whether that was answered.
+fn lose_wire<T: Teller>(wire: &Wire, now: Moment, teller: &mut T) -> bool
+    ensures { PartsTold result wire.now.stage now (T.shown teller.old) (T.shown teller.new) }
+{
+    match wire.link() {
+        None => true,
+        Some(link) => is_told(teller.ask(now, link, Ask::Lost, &mut [])),
+    }
+}
+
+/// At most so many bytes reach the server end of the link at a place. Says whether they were answered.
 pub(crate) fn feed_at<T: Teller>(
     lanes: &mut [Lane],
     index: usize,
@@ -160,10 +178,10 @@ pub(crate) fn feed_at<T: Teller>(
     most: u32,
     now: Moment,
     teller: &mut T,
-) -> Result<(), OutOfMemory>
+) -> Result<bool, OutOfMemory>
     requires within { index < length lanes.old }
     requires is { (l : Lane) → slice_get lanes.old index ≡ Some l → (x : things.Lane) × IsLane l x }
-    ensures { OnOk result (ChangesAt index lanes.old lanes.new (λ old new. (x : things.Lane) → IsLane old x → FeedsLane most now x (T.shown teller.old) new (T.shown teller.new))) }
+    ensures { IfOk result (λ told. ChangesAt index lanes.old lanes.new (λ old new. (x : things.Lane) → IsLane old x → FeedsLane told most now x (T.shown teller.old) new (T.shown teller.new))) }
 {
     lanes[index].feed(alloc, most, now, teller)
 }
@@ -176,10 +194,15 @@ pub(crate) fn idle_at<T: Teller>(lanes: &mut [Lane], index: usize, now: Moment, 
     lanes[index].idle(now, teller)
 }
 
-/// The loss of the server end of the link at a place.
-pub(crate) fn lose_at<T: Teller>(lanes: &mut [Lane], index: usize, now: Moment, teller: &mut T)
+/// The loss of the server end of the link at a place. Says whether that was answered.
+pub(crate) fn lose_at<T: Teller>(
+    lanes: &mut [Lane],
+    index: usize,
+    now: Moment,
+    teller: &mut T,
+) -> bool
     requires { index < length lanes.old }
-    ensures { ChangesAt index lanes.old lanes.new (λ old new. (x : things.Lane) → IsLane old x → LosesLane now x (T.shown teller.old) new (T.shown teller.new)) }
+    ensures { ChangesAt index lanes.old lanes.new (λ old new. (x : things.Lane) → IsLane old x → LosesLane result now x (T.shown teller.old) new (T.shown teller.new)) }
 {
     lanes[index].lose(now, teller)
 }

@@ -6,6 +6,7 @@ mod askable;
 mod client_end;
 mod flight;
 mod happening;
+mod housed;
 mod lane;
 mod laws;
 mod running;
@@ -13,5 +14,6 @@ mod whole_run;
 
 pub use askable::is_askable;
 pub use happening::Happening;
+pub use housed::HousedTeller;
 pub use laws::{what_happens_is_a_schedule, what_happens_takes_effect_once};
 pub use whole_run::{OnceRun, once};

@@ -1,9 +1,9 @@
 //! A client with its links and the teller, from one happening to the next.
-ghost use Rattle.std.specs.Prelude.{List, ℕ, IfOk, OnOk};
+ghost use Rattle.std.specs.Prelude.{◌≡◌, ◌&&◌, List, ℕ, Bool, true, IfOk, OnOk};
 ghost use Rattle.afp_client.specs.session.Opening.{FitsLogin};
 ghost use Rattle.afp_serial.specs.StatusBlock.{status_block};
 ghost use Rattle.once_across_breaks_code.specs.run.Things.{Things, begun_things};
-ghost use Rattle.once_across_breaks_live.specs.lemma.Running.{BeginsLane, Comes, IsPlace, IsStanding, Stands};
+ghost use Rattle.once_across_breaks_live.specs.lemma.Running.{BeginsLane, Comes, IsPlace, IsStanding, IsSure, Stands};
 
 use crate::client_end::{ClientEnd, ask_at, bring_at};
 use crate::happening::Happening;
@@ -25,6 +25,7 @@ pub(crate) struct Running<T: Teller + Drop> {
     pub(crate) end: ClientEnd,
     pub(crate) lanes: Vec<Lane>,
     pub(crate) teller: T,
+    pub(crate) answered: bool,
 }
 
 /// The place of the link of this number among so many.
@@ -36,6 +37,13 @@ fn place_of(link: u32, links: usize) -> Option<usize>
     }
     let place = (link - 1) as usize;
     if place < links { Some(place) } else { None }
+}
+
+/// Both.
+fn both(first: bool, second: bool) -> bool
+    ensures { result ≡ (first && second) }
+{
+    first && second
 }
 
 /// A link that the client begins.
@@ -79,14 +87,16 @@ impl<T: Teller + Drop> Running<T> {
             },
             lanes,
             teller,
+            answered: true,
         })
     }
 
     /// The client asks a call.
     fn asks(&mut self, call: &Call) -> Result<(), OutOfMemory>
         requires { IsStanding self.old.end self.old.lanes.items (T.shown self.old.teller) }
-        ensures { OnOk result ((block : List ℕ) (t : Things) → Stands self.old.end self.old.lanes.items (T.shown self.old.teller) t
-            → Comes block (Happening.Asks call.now) t self.new.end self.new.lanes.items (T.shown self.new.teller)) }
+        ensures comes { OnOk result ((block : List ℕ) (sure : Bool) (t : Things) → IsSure sure self.new.answered → Stands self.old.end self.old.lanes.items (T.shown self.old.teller) t
+            → Comes (record { block = block; answered = sure }) (Happening.Asks call.now) t self.new.end self.new.lanes.items (T.shown self.new.teller)) }
+        ensures kept { OnOk result (IsSure self.new.answered self.old.answered) }
     {
         let newest = self.lanes.len() - 1;
         let lanes = self.lanes.as_mut_slice();
@@ -96,14 +106,17 @@ impl<T: Teller + Drop> Running<T> {
     /// Bytes reach a server end.
     fn to_server(&mut self, link: u32, most: u32, now: Moment) -> Result<(), OutOfMemory>
         requires { IsStanding self.old.end self.old.lanes.items (T.shown self.old.teller) }
-        ensures { OnOk result ((block : List ℕ) (t : Things) → Stands self.old.end self.old.lanes.items (T.shown self.old.teller) t
-            → Comes block (Happening.ToServer link most now) t self.new.end self.new.lanes.items (T.shown self.new.teller)) }
+        ensures comes { OnOk result ((block : List ℕ) (sure : Bool) (t : Things) → IsSure sure self.new.answered → Stands self.old.end self.old.lanes.items (T.shown self.old.teller) t
+            → Comes (record { block = block; answered = sure }) (Happening.ToServer link most now) t self.new.end self.new.lanes.items (T.shown self.new.teller)) }
+        ensures kept { OnOk result (IsSure self.new.answered self.old.answered) }
     {
         match place_of(link, self.lanes.len()) {
             None => Ok(()),
             Some(place) => {
                 let lanes = self.lanes.as_mut_slice();
-                feed_at(lanes, place, self.alloc, most, now, &mut self.teller)
+                let told = feed_at(lanes, place, self.alloc, most, now, &mut self.teller)?;
+                self.answered = both(self.answered, told);
+                Ok(())
             }
         }
     }
@@ -111,8 +124,9 @@ impl<T: Teller + Drop> Running<T> {
     /// Bytes reach the client.
     fn to_client(&mut self, link: u32, most: u32) -> Result<(), OutOfMemory>
         requires { IsStanding self.old.end self.old.lanes.items (T.shown self.old.teller) }
-        ensures { OnOk result ((block : List ℕ) (t : Things) → Stands self.old.end self.old.lanes.items (T.shown self.old.teller) t
-            → Comes block (Happening.ToClient link most) t self.new.end self.new.lanes.items (T.shown self.new.teller)) }
+        ensures comes { OnOk result ((block : List ℕ) (sure : Bool) (t : Things) → IsSure sure self.new.answered → Stands self.old.end self.old.lanes.items (T.shown self.old.teller) t
+            → Comes (record { block = block; answered = sure }) (Happening.ToClient link most) t self.new.end self.new.lanes.items (T.shown self.new.teller)) }
+        ensures kept { OnOk result (IsSure self.new.answered self.old.answered) }
     {
         if link as usize != self.lanes.len() {
             return Ok(());
@@ -124,8 +138,9 @@ impl<T: Teller + Drop> Running<T> {
 
     /// A server end is quiet.
     fn quiet(&mut self, link: u32, now: Moment)
-        ensures { (block : List ℕ) (t : Things) → Stands self.old.end self.old.lanes.items (T.shown self.old.teller) t
-            → Comes block (Happening.Quiet link now) t self.new.end self.new.lanes.items (T.shown self.new.teller) }
+        ensures comes { (block : List ℕ) (sure : Bool) (t : Things) → IsSure sure self.new.answered → Stands self.old.end self.old.lanes.items (T.shown self.old.teller) t
+            → Comes (record { block = block; answered = sure }) (Happening.Quiet link now) t self.new.end self.new.lanes.items (T.shown self.new.teller) }
+        ensures kept { IsSure self.new.answered self.old.answered }
     {
         match place_of(link, self.lanes.len()) {
             None => {}
@@ -138,22 +153,25 @@ impl<T: Teller + Drop> Running<T> {
 
     /// A server end is lost.
     fn lost(&mut self, link: u32, now: Moment)
-        ensures { (block : List ℕ) (t : Things) → Stands self.old.end self.old.lanes.items (T.shown self.old.teller) t
-            → Comes block (Happening.Lost link now) t self.new.end self.new.lanes.items (T.shown self.new.teller) }
+        ensures comes { (block : List ℕ) (sure : Bool) (t : Things) → IsSure sure self.new.answered → Stands self.old.end self.old.lanes.items (T.shown self.old.teller) t
+            → Comes (record { block = block; answered = sure }) (Happening.Lost link now) t self.new.end self.new.lanes.items (T.shown self.new.teller) }
+        ensures kept { IsSure self.new.answered self.old.answered }
     {
         match place_of(link, self.lanes.len()) {
             None => {}
             Some(place) => {
                 let lanes = self.lanes.as_mut_slice();
-                lose_at(lanes, place, now, &mut self.teller)
+                let told = lose_at(lanes, place, now, &mut self.teller);
+                self.answered = both(self.answered, told);
             }
         }
     }
 
     /// The client's link breaks, and it begins the next one.
     fn breaks(&mut self, house: &House) -> Result<(), OutOfMemory>
-        ensures { OnOk result ((t : Things) → Stands self.old.end self.old.lanes.items (T.shown self.old.teller) t
-            → Comes (status_block house.now) Happening.Breaks t self.new.end self.new.lanes.items (T.shown self.new.teller)) }
+        ensures comes { OnOk result ((sure : Bool) (t : Things) → IsSure sure self.new.answered → Stands self.old.end self.old.lanes.items (T.shown self.old.teller) t
+            → Comes (record { block = status_block house.now; answered = sure }) Happening.Breaks t self.new.end self.new.lanes.items (T.shown self.new.teller)) }
+        ensures kept { OnOk result (IsSure self.new.answered self.old.answered) }
     {
         self.end.client.broke();
         let lane = begin(self.alloc, house, &mut self.end.client)?;
@@ -164,8 +182,9 @@ impl<T: Teller + Drop> Running<T> {
 
     /// Others ask. What they are told is let go.
     fn others(&mut self, now: Moment, link: LinkNumber, ask: &Ask) -> Result<(), OutOfMemory>
-        ensures { OnOk result ((block : List ℕ) (t : Things) → Stands self.old.end self.old.lanes.items (T.shown self.old.teller) t
-            → Comes block (Happening.Others now link ask.now) t self.new.end self.new.lanes.items (T.shown self.new.teller)) }
+        ensures comes { OnOk result ((block : List ℕ) (sure : Bool) (t : Things) → IsSure sure self.new.answered → Stands self.old.end self.old.lanes.items (T.shown self.old.teller) t
+            → Comes (record { block = block; answered = sure }) (Happening.Others now link ask.now) t self.new.end self.new.lanes.items (T.shown self.new.teller)) }
+        ensures kept { OnOk result (IsSure self.new.answered self.old.answered) }
     {
         let asked = ask.copy()?;
         let mut room = vec![in self.alloc; 0u8; MOST_PAYLOAD]?;
@@ -176,8 +195,9 @@ impl<T: Teller + Drop> Running<T> {
     /// What happens.
     pub(crate) fn happen(&mut self, house: &House, event: &Happening) -> Result<(), OutOfMemory>
         requires { IsStanding self.old.end self.old.lanes.items (T.shown self.old.teller) }
-        ensures { OnOk result ((t : Things) → Stands self.old.end self.old.lanes.items (T.shown self.old.teller) t
-            → Comes (status_block house.now) event.now t self.new.end self.new.lanes.items (T.shown self.new.teller)) }
+        ensures comes { OnOk result ((sure : Bool) (t : Things) → IsSure sure self.new.answered → Stands self.old.end self.old.lanes.items (T.shown self.old.teller) t
+            → Comes (record { block = status_block house.now; answered = sure }) event.now t self.new.end self.new.lanes.items (T.shown self.new.teller)) }
+        ensures kept { OnOk result (IsSure self.new.answered self.old.answered) }
     {
         match event {
             Happening::Asks(call) => self.asks(call),

@@ -1,10 +1,11 @@
 -- What the calls on a link do.
-use Rattle.std.specs.Prelude.{◌≡◌, ◌≢◌, ◌⊎◌, ℕ, ◌+◌, ◌<◌, ◌≤◌, true, false, List, [], ◌++◌, length, take, drop, Option, Some, None, IfNone, is_some, slice_get, slice_set}
+use Rattle.std.specs.Prelude.{◌≡◌, ◌≢◌, ◌⊎◌, ℕ, ◌+◌, ◌<◌, ◌≤◌, Bool, true, false, List, [], ◌++◌, length, take, drop, Option, Some, None, IfNone, is_some, slice_get, slice_set}
 use Rattle.afp_base.specs.declared.ids.LinkNumber.{LinkNumber}
 use Rattle.afp_serial.specs.Shown.{Asked, Shown}
 use Rattle.afp_serial.specs.declared.ask.Ask.TheVariants as ask
 use Rattle.afp_serial.specs.declared.ask.Told.{Told}
 use Rattle.afp_server.specs.link.Wire.{Feeds, PartsBy, WireState, feed_point, open_link}
+use Rattle.afp_server.specs.declared.link.stage.Stage.{Stage}
 use Rattle.afp_server.specs.declared.link.stage.Stage.TheVariants as stages
 use Rattle.afp_server.specs.declared.link.wire.WireEnd.{WireEnd}
 use Rattle.afp_server.specs.declared.link.wire.WireEnd.TheVariants as wire_ends
@@ -13,7 +14,7 @@ use Rattle.dsi_frame.specs.Frame.{Frame}
 use Rattle.volume_spec.specs.TypedVolume.{are_bytes}
 use Rattle.once_across_breaks_code.specs.run.Doings.{fed_at, is_displaced}
 use Rattle.once_across_breaks_code.specs.run.Things as things
-use Rattle.once_across_breaks_live.specs.Steps.{WentOn}
+use Rattle.once_across_breaks_live.specs.Steps.{LossIsTold, WentOn}
 use Rattle.once_across_breaks_live.specs.declared.lane.Lane.{Lane}
 
 -- the server end that is there goes on
@@ -56,7 +57,7 @@ pub record Rests (x : things.Lane) (a : Shown) (l : Lane) (b : Shown) : Type 0 w
   pub shown : b ≡ a
 
 -- the first so many bytes under way were fed to this wire
-pub record FedWith (size now : ℕ) (w : WireState) (old : Lane) (a : Shown) (new : Lane) (b : Shown) : Type 0 where
+pub record FedWith (told : Bool) (size now : ℕ) (w : WireState) (old : Lane) (a : Shown) (new : Lane) (b : Shown) : Type 0 where
   pub after : WireState
   pub result : Option WireEnd
   pub still : IsStill after result new.wire
@@ -67,6 +68,7 @@ pub record FedWith (size now : ℕ) (w : WireState) (old : Lane) (a : Shown) (ne
       → Feeds (record { block = w.block; now = now; bytes = bytes; past = past; stage = w.stage; out = old.down; shown = a }) (bytes ++ take size old.up) result after.held
       (feed_point after.stage after.tally new.down b)
   pub up : new.up ≡ drop size old.up
+  pub answered : told ≡ true → after.tally.answered ≡ true
   pub typed : are_bytes new.down ≡ true
 
 -- Wire::feed, at a link
@@ -82,17 +84,18 @@ pub record IsFedLane (now : ℕ) (x : things.Lane) (a : Shown) (y : things.Lane)
   pub ended : y.ended ≡ is_some result
   pub typed : are_bytes y.down ≡ true
 
-pub record FeedsSome (n now : ℕ) (x : things.Lane) (a : Shown) (l : Lane) (b : Shown) : Type 0 where
+pub record FeedsSome (told : Bool) (n now : ℕ) (x : things.Lane) (a : Shown) (l : Lane) (b : Shown) : Type 0 where
   pub asked : 0 < n
   pub some : x.up ≢ []
   pub new : things.Lane
   pub fed : IsFedLane now x a new b
   pub moved : new.up ≡ drop n x.up
+  pub answered : told ≡ true → new.wire.tally.answered ≡ true
   pub lane : IsLane l new
   pub went_on : WentOn a b
 
-abbrev pub FeedsLane : ℕ → ℕ → things.Lane → Shown → Lane → Shown → Type 0
-FeedsLane n now x a l b = FeedsSome n now x a l b ⊎ ((x.ended ≡ false → 0 < n → x.up ≢ [] → ⊥) × Rests x a l b)
+abbrev pub FeedsLane : Bool → ℕ → ℕ → things.Lane → Shown → Lane → Shown → Type 0
+FeedsLane told n now x a l b = FeedsSome told n now x a l b ⊎ ((x.ended ≡ false → 0 < n → x.up ≢ [] → ⊥) × Rests x a l b)
 
 -- a quiet, at a link
 pub record IdlesSome (now : ℕ) (x : things.Lane) (a : Shown) (l : Lane) (b : Shown) : Type 0 where
@@ -107,15 +110,21 @@ pub record IdlesSome (now : ℕ) (x : things.Lane) (a : Shown) (l : Lane) (b : S
 abbrev pub IdlesLane : ℕ → things.Lane → Shown → Lane → Shown → Type 0
 IdlesLane now x a l b = IdlesSome now x a l b ⊎ ((x.ended ≡ false → (link : LinkNumber) → x.wire.stage ≡ stages.Open link → ⊥) × Rests x a l b)
 
+-- the end of a wire that is lost
+pub record PartsTold (told : Bool) (stage : Stage) (now : ℕ) (a b : Shown) : Type 0 where
+  pub parts : PartsBy stage now a b
+  pub answered : told ≡ true → LossIsTold now stage a b
+
 -- a loss, at a link
-pub record LosesSome (now : ℕ) (x : things.Lane) (a : Shown) (l : Lane) (b : Shown) : Type 0 where
+pub record LosesSome (told : Bool) (now : ℕ) (x : things.Lane) (a : Shown) (l : Lane) (b : Shown) : Type 0 where
   pub live : x.ended ≡ false
   pub parts : PartsBy x.wire.stage now a b
+  pub answered : told ≡ true → LossIsTold now x.wire.stage a b
   pub lane : IsLane l (record { wire = x.wire; ended = true; up = x.up; down = x.down })
   pub went_on : WentOn a b
 
-abbrev pub LosesLane : ℕ → things.Lane → Shown → Lane → Shown → Type 0
-LosesLane now x a l b = LosesSome now x a l b ⊎ ((x.ended ≡ false → ⊥) × Rests x a l b)
+abbrev pub LosesLane : Bool → ℕ → things.Lane → Shown → Lane → Shown → Type 0
+LosesLane told now x a l b = LosesSome told now x a l b ⊎ ((x.ended ≡ false → ⊥) × Rests x a l b)
 
 -- the link at that place changed so, and no other
 pub record ChangesAt (index : ℕ) (lanes new_lanes : List Lane) (changes : Lane → Lane → Type 0) : Type 0 where

@@ -1,16 +1,12 @@
-use Rattle.std.proofs.Common.{arith}
+use Rattle.std.proofs.Common.{◌≡◌, ◌∙◌, ap, subst, List, ℕ}
+use Rattle.std.proofs.lemmas.Result.{IfOk-weaker}
 use Rattle.afp_serial.specs.StatusBlock.{status_block}
-use Rattle.once_across_breaks_code.specs.run.Things.{begun_things}
-use Rattle.once_across_breaks_live.proofs.RunningLemmas.{all-come, comes-on, next-behind}
+use Rattle.once_across_breaks_live.specs.Once.{ComesTo, block_of}
 use Rattle.once_across_breaks_live.proofs.whole_run.once.Goals as goal
-
-pub loop-event-preserved : goal.loop-event-preserved
-loop-event-preserved g c =
-    let block = status_block c.args.house.now in
-    comes-on block c.args.events.now _ _ c.event-item.result (begun_things block c.args.login (g.T.Teller.shown c.args.teller)) c.loop-event.running.end c.happen.new.self.end c.loop-event.running.lanes.items c.happen.new.self.lanes.items
-    (g.T.Teller.shown c.loop-event.running.teller) (g.T.Teller.shown c.happen.new.self.teller) (next-behind c.args.events.now c.loop-event.event-index c.event-item.result (omega arith) c.event-item.is) c.loop-event.invariant c.in_ok-happen.ensures
 
 pub returns : goal.returns
 returns g c =
-    all-come (status_block c.args.house.now) c.args.login (g.T.Teller.shown c.args.teller) c.args.events.now c.loop-event.event-index c.loop-event.running.end c.loop-event.running.lanes.items (g.T.Teller.shown c.loop-event.running.teller)
-    c.what_happens_is_a_schedule.ensures c.what_happens_takes_effect_once.ensures c.loop-event.invariant (omega arith)
+    let first = g.T.Teller.shown c.args.teller in
+    let block_is : status_block c.in_ok-house.house ≡ block_of first = ap status_block c.in_ok-house.ensures.value ∙ c.house.ensures in
+    IfOk-weaker c.run_all.result _ _
+    (λ run x. subst (λ (b : List ℕ). ComesTo b c.args.login first c.args.events.now run.answered run.client (g.T.Teller.shown run.teller) run.results.items) block_is x) c.run_all.ensures

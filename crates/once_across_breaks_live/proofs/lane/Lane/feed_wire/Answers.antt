@@ -1,9 +1,9 @@
-use Rattle.std.proofs.Common.{subst, sym, ap, ◌≡◌, ◌≢◌, ◌+◌, ◌≤◌, true, arith, List, ◌++◌, ℕ, length, take}
+use Rattle.std.proofs.Common.{subst, sym, ap, ◌∙◌, ◌≡◌, ◌≢◌, ◌+◌, ◌≤◌, true, arith, List, ◌++◌, ℕ, length, take}
 use Rattle.std.proofs.lemmas.List.{length-take-le}
 use Rattle.std.specs.Prelude.{Option, IfNone}
-use Rattle.std.proofs.lemmas.Result.{on_ok_weaker}
 use Rattle.afp_server.specs.link.Wire.{Feeds, feed_point}
 use Rattle.afp_server.specs.declared.link.stage.Stage.TheVariants as stages
+use Rattle.afp_server.specs.declared.link.tally.Tally.{Tally}
 use Rattle.afp_server.specs.declared.link.wire.WireEnd.{WireEnd}
 use Rattle.dsi_frame.specs.Deframe.{GivenOut}
 use Rattle.dsi_frame.specs.Frame.{Frame}
@@ -16,8 +16,7 @@ feed-end-requires-clause-live g c = subst (λ (o : Option WireEnd). IfNone o (c.
 
 pub returns : goal.returns
 returns g c =
-    on_ok_weaker c.take_away.result
-    (λ up. record {
+    record {
       after = c.feed-end.new.self;
       result = c.feed-end.result;
       still = c.in_ok-there.ensures;
@@ -29,7 +28,7 @@ returns g c =
           → Feeds (record { block = c.args.begun.block; now = c.args.now; bytes = bytes; past = past; stage = c.args.begun.stage; out = c.args.self.now.down; shown = g.T.Teller.shown c.args.teller.now }) (bytes ++ take c.args.size u) c.feed-end.result c.feed-end.new.self.held
           (feed_point c.feed-end.new.self.stage c.feed-end.new.self.tally c.feed-end.new.out (g.T.Teller.shown c.feed-end.new.teller))) c.as_slice.ensures
           (at_none c.args.begun.end _ c.requires.goes_on c.feed-end.ensures.feeds);
-      up = up;
+      up = c.in_ok-take_away.ensures;
+      answered = λ e. sym (ap (λ (x : Tally). x.answered) c.tally-told.ensures) ∙ e;
       typed = subst (λ (bytes : List ℕ). are_bytes bytes ≡ true) c.as_slice-2.ensures c.bytes_in_range.ensures;
-    })
-    c.take_away.ensures
+    }
