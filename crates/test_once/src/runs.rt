@@ -1,24 +1,17 @@
 //! Runs, and what the client was told in them.
 use crate::calls::{append, put_broken_append, put_call, put_opened};
-use crate::server::{house, moment, teller};
+use crate::server::{Served, moment, teller};
 use afp_base::OutOfMemory;
 use afp_client::Login;
-use afp_core::ListTeller;
 use once_across_breaks_live::{Happening, OnceRun, once};
-use record_keeper::MemoryKeeper;
 use std::alloc::Global;
 
-fn run(
-    alloc: Global,
-    events: &[Happening],
-) -> Result<OnceRun<ListTeller<MemoryKeeper>>, OutOfMemory> {
-    let house = house(alloc)?;
-    let teller = teller(alloc, &house)?;
-    once(alloc, Login { user: None }, &house, teller, events)
+fn run(alloc: Global, events: &[Happening]) -> Result<OnceRun<Served>, OutOfMemory> {
+    once(alloc, Login { user: None }, teller(alloc)?, events)
 }
 
 /// What the last result has behind its code, and how many results there are, each of them Ok.
-fn last_of(run: &OnceRun<ListTeller<MemoryKeeper>>) -> (usize, &[u8]) {
+fn last_of(run: &OnceRun<Served>) -> (usize, &[u8]) {
     let mut last: &[u8] = b"none";
     for result in run.results.as_slice() {
         if result.code.number() != 0 {
