@@ -21,6 +21,7 @@ use Rattle.afp_desk.specs.workers.Keeping.{Keeping, steady_in}
 use Rattle.afp_desk.specs.declared.workers.house.Closing.{Closing}
 use Rattle.afpd_lib.specs.server.AskedHouse.{Asks, IsRefused, house_of}
 use Rattle.afpd_lib.specs.server.Reporting.{bad_line, bad_words, counts_line, fault_line, no_memory}
+use Rattle.afpd_lib.specs.server.Telling.{Tells}
 use Rattle.afpd_lib.specs.words.Command.{server_app}
 use Rattle.afpd_lib.specs.words.Words.{WordValues}
 use Rattle.clap.specs.Faults.{fault_of}
@@ -95,20 +96,16 @@ EndsRun state passed door kept_by words keepers key clock doors (run.DoorFailed 
 EndsRun state passed door kept_by words keepers key clock doors (run.Served counts) trace back =
     (s : ServesWords state passed door kept_by words keepers key clock doors ends.Closed trace back) × (counts ≡ s.closing.counts)
 
--- the text was reported, with this status; or it could not be, with status 5
-abbrev pub TellsStatus : ℕ → List ℕ → SinkState → SinkState → ℕ → Type 0
-TellsStatus good text old new status = ((status ≡ good) × Prints old text new) ⊎ ((status ≡ 5) × PrintsPart old text new)
-
 -- What is reported of such an end, and the exit status: 0 for the help; 2 for refused words, 3 for a load that gave no volume, 4 for a door and 0, or 5 where
 -- the report could not be written; 6 for want of memory, written or not.
 abbrev pub Status : RunEnd → SinkState → SinkState → ℕ → Type 0
-Status (run.Helped text) old new status = TellsStatus 0 (string_bytes text) old new status
-Status run.Refused old new status = TellsStatus 2 bad_words old new status
+Status (run.Helped text) old new status = Tells (string_bytes text) 0 old new status
+Status run.Refused old new status = Tells bad_words 2 old new status
 Status run.Memory old new status = (status ≡ 6) × (Prints old no_memory new ⊎ PrintsPart old no_memory new)
-Status (run.BadRecord index hex reason) old new status = TellsStatus 3 (bad_line index (string_bytes hex) reason) old new status
-Status (run.LoadFailed index) old new status = TellsStatus 3 (fault_line index) old new status
-Status (run.DoorFailed counts) old new status = TellsStatus 4 (counts_line counts.entries counts.sessions) old new status
-Status (run.Served counts) old new status = TellsStatus 0 (counts_line counts.entries counts.sessions) old new status
+Status (run.BadRecord index hex reason) old new status = Tells (bad_line index (string_bytes hex) reason) 3 old new status
+Status (run.LoadFailed index) old new status = Tells (fault_line index) 3 old new status
+Status (run.DoorFailed counts) old new status = Tells (counts_line counts.entries counts.sessions) 4 old new status
+Status (run.Served counts) old new status = Tells (counts_line counts.entries counts.sessions) 0 old new status
 
 -- a whole run: how it ended, with what it did to the doors, the report and the status
 pub record IsServerRun {L P Y K : Type 0} (state : L → LinkState) (passed : P → Passed) (door : Y → DoorState L) (kept_by : Keeping K) (words : List (List ℕ)) (keepers : List K) (key : List ℕ) (clock : Option ℕ) (doors : List Y) (before after : SinkState) (finish : Finish Y) : Type 0 where

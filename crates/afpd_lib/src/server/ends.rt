@@ -4,7 +4,7 @@ ghost use Rattle.afpd_lib.specs.words.Words.{SaysWords, WordValues};
 ghost use Rattle.afpd_lib.specs.server.Run.{Status};
 ghost use Rattle.afpd_lib.specs.server.lemma.Run.{EndsLoad, EndsUnread, end_of};
 
-use crate::server::notes::tell;
+use crate::server::notes::Notes;
 use crate::server::report::{report_bad, report_counts, report_fault};
 use crate::words::explain;
 use afp_core::Counts;
@@ -66,7 +66,7 @@ pub(crate) fn end_of(end: WorkerEnd, counts: Counts) -> RunEnd
 }
 
 /// How a run ends whose words say nothing: with their help, where they ask for it. Else notes tell a person what is wrong.
-pub(crate) fn unread_end<P: Sink>(alloc: Global, words: &[String], notes: &mut P) -> RunEnd
+pub(crate) fn unread_end<P: Notes>(alloc: Global, words: &[String], notes: &mut P) -> RunEnd
     requires { (values : WordValues) → SaysWords (map (λ word. string_bytes word) words.now) values → ⊥ }
     ensures { EndsUnread (map (λ word. string_bytes word) words.now) result }
 {
@@ -78,7 +78,7 @@ pub(crate) fn unread_end<P: Sink>(alloc: Global, words: &[String], notes: &mut P
             if told.asked {
                 return RunEnd::Helped { text };
             }
-            tell(notes, text.as_str());
+            notes.tell(text.as_str());
             RunEnd::Refused
         }
     }

@@ -1,31 +1,56 @@
 //! What a person is told beside the report. No promise speaks of what it says.
-ghost use Rattle.std.specs.Prelude.{◌≡◌};
-
 use crate::words::{PlaceWord, ServerWords, VolumeWord};
 use afp_base::{OutOfMemory, VolumeId};
 use afp_core::Core;
-use afp_outside::{Sink, Wrote, print_all};
+use afp_outside::{Sink, TapeSink, print_all};
 use afp_serial::HouseFault;
 use record_keeper::Keeper;
 use std::alloc::Global;
+use std::io::ErrorKind;
 
-/// A sink for notes that nobody is to read.
-#[derive(Drop)]
-pub struct NoNotes;
+/// Where a person is told what the report does not say.
+pub trait Notes {
+    /// Tells a text, in lines, as far as it can be written.
+    fn tell(&mut self, text: &str);
 
-impl Sink for NoNotes {
-    ghost use Rattle.std.specs.Prelude.{None};
+    /// The port at which the doors are open, where the words ask for this one; `None` where they are not open, so that nobody is told that the server
+    /// listens.
+    fn open_port(&self, asked: u16) -> Option<u16>;
+}
 
-    ghost sink_state = { λ _. record { written = None; faults = 0 } };
+/// In memory the doors are at the port that was asked for.
+impl Notes for TapeSink {
+    fn tell(&mut self, text: &str) {
+        let _written = print_all(self, text.as_bytes());
+    }
 
-    fn write(&mut self, piece: &[u8]) -> Wrote {
-        Wrote::Took(piece.len())
+    fn open_port(&self, asked: u16) -> Option<u16> {
+        Some(asked)
     }
 }
 
-/// Tells a text, as far as it can be written.
-pub fn tell<P: Sink>(notes: &mut P, text: &str) {
-    let _written = print_all(notes, text.as_bytes());
+/// Notes to a sink, as the standard error, of a server whose doors are at a real port.
+#[derive(Drop)]
+pub struct PortNotes<P> {
+    out: P,
+    port: Option<u16>,
+}
+
+impl<P> PortNotes<P> {
+    /// Notes to this sink; `port` is the one at which the doors are open, where they are.
+    pub fn new(out: P, port: Option<u16>) -> PortNotes<P> {
+        PortNotes { out, port }
+    }
+}
+
+impl<P: Sink> Notes for PortNotes<P> {
+    fn tell(&mut self, text: &str) {
+        let _written = print_all(&mut self.out, text.as_bytes());
+    }
+
+    fn open_port(&self, _asked: u16) -> Option<u16> {
+        self.port
+    }
 }
 
 /// Appends where a volume is kept.
@@ -49,11 +74,11 @@ fn put_volume(text: &mut String, volume: &VolumeWord<'_>, nodes: usize) -> Resul
 /// The port, and each volume with its place and its nodes.
 fn listening_text<K: Keeper>(
     alloc: Global,
+    port: u16,
     said: &ServerWords<'_>,
     core: &Core<K>,
 ) -> Result<String, OutOfMemory> {
     let mut text = String::new(alloc);
-    let port = said.port;
     write!(text, "afpd: listens on port {port}:")?;
     let mut id: u16 = 0;
     for volume in said.volumes.as_slice() {
@@ -65,15 +90,18 @@ fn listening_text<K: Keeper>(
     Ok(text)
 }
 
-/// Tells that the server listens, and over which volumes.
-pub fn tell_listening<K: Keeper, P: Sink>(
+/// Tells that the server listens, and over which volumes, where its doors are open.
+pub fn tell_listening<K: Keeper, P: Notes>(
     alloc: Global,
     notes: &mut P,
     said: &ServerWords<'_>,
     core: &Core<K>,
 ) {
-    if let Ok(text) = listening_text(alloc, said, core) {
-        tell(notes, text.as_str());
+    let Some(port) = notes.open_port(said.port) else {
+        return;
+    };
+    if let Ok(text) = listening_text(alloc, port, said, core) {
+        notes.tell(text.as_str());
     }
 }
 
@@ -93,9 +121,22 @@ fn unloaded_text(
 }
 
 /// Tells from where a volume could not be loaded.
-pub fn tell_unloaded<P: Sink>(alloc: Global, notes: &mut P, said: &ServerWords<'_>, index: usize) {
+pub fn tell_unloaded<P: Notes>(alloc: Global, notes: &mut P, said: &ServerWords<'_>, index: usize) {
     if let Ok(text) = unloaded_text(alloc, said, index) {
-        tell(notes, text.as_str());
+        notes.tell(text.as_str());
+    }
+}
+
+/// What a person may do where a port cannot be opened, by the system's error, in a line.
+pub fn port_remedy(fault: ErrorKind) -> &'static str {
+    match fault {
+        ErrorKind::PermissionDenied => {
+            "a port below 1024 takes root, or the capability CAP_NET_BIND_SERVICE, as `setcap cap_net_bind_service=ep FILE` gives it to the program's file; or take a higher one, as --port 5548\n"
+        }
+        ErrorKind::AddrInUse => {
+            "another program has this port open, maybe another afpd: end that one, or take another port, as --port 5548; --port 0 takes one that is free, and tells it\n"
+        }
+        _ => "take another port, as --port 5548\n",
     }
 }
 

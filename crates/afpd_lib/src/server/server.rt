@@ -6,7 +6,7 @@ ghost use Rattle.afpd_lib.specs.server.lemma.Run.{EndsCore, EndsHouse, end_of};
 
 use crate::server::ends::{RunEnd, end_of, load_end, report_end, unread_end};
 use crate::server::house::house_for;
-use crate::server::notes::{house_text, tell, tell_listening, tell_unloaded};
+use crate::server::notes::{Notes, house_text, tell_listening, tell_unloaded};
 use crate::words::{ServerWords, WordFault, read_words};
 use afp_core::{Core, CoreFault};
 use afp_desk::{Closing, Done, Trace, serve_loaded};
@@ -122,7 +122,7 @@ fn serve_house<
     N: Listener + Send + Drop,
     C: Clock,
     G: Gate + Sync,
-    P: Sink,
+    P: Notes,
 >(
     rt: &R,
     alloc: Global,
@@ -169,7 +169,7 @@ fn run<
     N: Listener + Send + Drop,
     C: Clock,
     G: Gate + Sync,
-    P: Sink,
+    P: Notes,
 >(
     rt: &R,
     alloc: Global,
@@ -193,7 +193,7 @@ where
             Err(fault) => match fault {
                 HouseFault::Memory => unserved(RunEnd::Memory, doors),
                 _ => {
-                    tell(notes, house_text(fault));
+                    notes.tell(house_text(fault));
                     unserved(RunEnd::Refused, doors)
                 }
             },
@@ -213,7 +213,7 @@ fn serve_kept<
     C: Clock,
     G: Gate + Sync,
     O: Sink,
-    P: Sink,
+    P: Notes,
 >(
     rt: &R,
     alloc: Global,
@@ -247,7 +247,7 @@ where
 /// with a worker and a thread of its own, hands each link back, settles the keepers, and gives the exit status and the doors.
 ///
 /// The words are `[--server NAME] [--signature HEX] [--users LIST] [--message TEXT] [--port N] [--workers N] [--links N] [--turns N]
-/// VOLUME=PLACE ..`, as `afpd_words` reads them, with 1 to 8 volumes. There are as many doors as `--workers` says. Each is served until it is closed or fails;
+/// VOLUME=PLACE ..`, as `read_words` reads them, with 1 to 8 volumes. There are as many doors as `--workers` says. Each is served until it is closed or fails;
 /// of each link up to `--turns` bytes and quiets are taken. After how many links a door closes, as `--links` says, is the door's own affair.
 ///
 /// The status is 2 where the words are others, the house is refused, or the number of keepers is not that of the volumes, or that of doors not that of the
@@ -263,7 +263,7 @@ pub fn afpd<
     C: Clock,
     G: Gate + Sync,
     O: Sink,
-    P: Sink,
+    P: Notes,
 >(
     rt: &R,
     alloc: Global,

@@ -97,7 +97,7 @@ fn server_command<'a>(alloc: Global) -> Result<Command<'a>, AllocError>
             "N",
             "548",
             ValueParser::Unsigned(0, 65_535),
-            "The TCP port",
+            "The TCP port; 0: one that is free, which is told",
         ))?
         .arg(option(
             alloc,
@@ -105,7 +105,7 @@ fn server_command<'a>(alloc: Global) -> Result<Command<'a>, AllocError>
             "N",
             "4",
             ValueParser::Unsigned(1, 16),
-            "How many links are to be served side by side; until then they are served one after the other",
+            "How many workers there are, each of which serves one link at a time; a further link waits",
         ))?;
     let command = command
         .arg(option(
@@ -114,7 +114,7 @@ fn server_command<'a>(alloc: Global) -> Result<Command<'a>, AllocError>
             "N",
             "0",
             ValueParser::Unsigned(0, 1_000_000),
-            "After how many links the server ends; 0: never",
+            "After how many links each worker ends; the server ends when all have; 0: never",
         ))?
         .arg(option(
             alloc,
