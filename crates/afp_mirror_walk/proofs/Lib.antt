@@ -1,0 +1,12 @@
+pub mod Copied
+pub mod NewNodes
+pub mod Paths
+pub mod TailSettings
+pub mod Steps
+pub mod TableRows
+pub mod Served
+pub mod TreeSteps
+pub mod Refused
+pub mod ForkSteps
+pub mod NodesMade
+pub mod SetFiles

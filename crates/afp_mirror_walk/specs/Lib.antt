@@ -1,0 +1,13 @@
+pub mod Alike
+pub mod Copies
+pub mod Created
+pub mod Settled
+pub mod Names
+pub mod Standing
+pub mod Asks
+pub mod Settings
+pub mod Follows
+pub mod Table
+pub mod Ports
+pub mod Steps
+pub mod lemma

@@ -1,0 +1,3 @@
+-- What the code goes by; no public contract cites it.
+pub mod Given
+pub mod Reads
