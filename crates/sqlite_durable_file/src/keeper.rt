@@ -1,11 +1,17 @@
 //! A keeper over a database file.
-ghost use Rattle.std.specs.Prelude.{◌≡◌, ◌≢◌, ◌⊎◌, IfOk, IfErr, IsTrue, Err, true, []};
+ghost use Rattle.std.specs.Prelude.{◌≡◌, ◌≢◌, ◌⊎◌, ◌≤◌, IfOk, IfErr, IsTrue, Err, codes, true, []};
+ghost use Rattle.record_keeper.specs.Stops.{IsSettled};
+ghost use Rattle.sqlite.specs.Files.{file_state};
 ghost use Rattle.sqlite.specs.Opening.{is_open_error};
-ghost use Rattle.sqlite.specs.State.{store_error};
+ghost use Rattle.sqlite.specs.State.{HasCleanDisk, store_error};
+ghost use Rattle.sqlite_durable.specs.Durable.{IsFoundIn};
+ghost use Rattle.sqlite_durable_file.specs.Found.{HasFound, file_leaves, file_told};
+ghost use Rattle.sqlite_trees.specs.View.{doubt};
+ghost use Rattle.sqlite_wal.specs.Files.{image_at};
 
 use afp_base::Bytes;
 use record_keeper::{Change, Keeper, KeeperFault, RecordKey};
-use sqlite::{Connection, Error, ErrorCode, File, FileStore};
+use sqlite::{Connection, Error, ErrorCode, File, FileFrom, FileStore, Start, Unknown};
 use sqlite_durable::{DurableKeeper, StartFault};
 use std::alloc::Global;
 use thiserror::Error;
@@ -51,33 +57,61 @@ impl FileKeeper {
         ensures settles { IfOk result (λ keeper. keeper.inner.settles ≡ []) }
         ensures named { IfErr result (λ fault. (error : _) → fault ≡ OpenFault.File error → IsTrue (is_open_error error)) }
         ensures alone { result ≢ Err (OpenFault.Start StartFault.InTransaction) }
+        ensures path { path.now ≡ codes ":memory:" → result ≡ Err (OpenFault.File (Error.SqliteFailure ErrorCode.CannotOpen)) }
     {
-        match Connection::open_with_sums(rt, path) {
-            Ok(connection) => started(connection),
-            Err(error) => Err(OpenFault::File(error)),
+        match open_from(rt, path, Unknown) {
+            Ok(inner) => Ok(FileKeeper { inner }),
+            Err(fault) => Err(fault),
         }
     }
 }
 
-fn started(connection: Connection<FileStore<File>>) -> Result<FileKeeper, OpenFault>
-    ensures faults { IfOk result (λ keeper. keeper.inner.faults ≡ 0) }
-    ensures settles { IfOk result (λ keeper. keeper.inner.settles ≡ []) }
+/// The keeper that a `FileKeeper` is made of. `S` stands for what the files held as they were opened, which no code can read: what
+/// is said for each `S` holds of any files. No clause ties those to the path. A program names `Unknown`, at which `found` says
+/// nothing of a file that held something.
+pub fn open_from<S: Start>(
+    rt: &HostRuntime,
+    path: &str,
+    start: S,
+) -> Result<DurableKeeper<FileStore<FileFrom<S>>>, OpenFault>
+    ensures faults { IfOk result (λ keeper. keeper.faults ≡ 0) }
+    ensures settles { IfOk result (λ keeper. keeper.settles ≡ []) }
+    ensures named { IfErr result (λ fault. (error : _) → fault ≡ OpenFault.File error → IsTrue (is_open_error error)) }
+    ensures alone { result ≢ Err (OpenFault.Start StartFault.InTransaction) }
+    ensures path { path.now ≡ codes ":memory:" → result ≡ Err (OpenFault.File (Error.SqliteFailure ErrorCode.CannotOpen)) }
+    ensures found { IfOk result (λ keeper. HasCleanDisk (file_state keeper.database) → HasFound (image_at S.Start) (file_state keeper.database)) }
+    ensures settled { IfOk result (λ keeper. IsSettled (file_state keeper.database).is_clean (file_told keeper.database) (file_leaves keeper.database)) }
+{
+    match Connection::open_from(rt, path, true, start) {
+        Ok(connection) => started(connection),
+        Err((error, _left)) => Err(OpenFault::File(error)),
+    }
+}
+
+fn started<S: Start>(
+    connection: Connection<FileStore<FileFrom<S>>>,
+) -> Result<DurableKeeper<FileStore<FileFrom<S>>>, OpenFault>
+    ensures faults { IfOk result (λ keeper. keeper.faults ≡ 0) }
+    ensures settles { IfOk result (λ keeper. keeper.settles ≡ []) }
     ensures named { IfErr result (λ fault. (error : _) → fault ≢ OpenFault.File error) }
     ensures busy { result ≡ Err (OpenFault.Start StartFault.InTransaction) → connection.in_transaction ≡ true }
+    ensures clean { IfOk result (λ keeper. doubt (file_state connection).is_clean ≤ doubt (file_state keeper.database).is_clean) }
+    ensures tells { IfOk result (λ keeper. HasCleanDisk (file_state keeper.database) → IsTrue (file_state connection).is_open → IsTrue (file_state keeper.database).is_open) }
+    ensures found { IfOk result (λ keeper. IsTrue (file_state keeper.database).is_open → IsFoundIn (file_state connection).now (file_state keeper.database).now) }
+    ensures settled { IfOk result (λ keeper. IsSettled (file_state keeper.database).is_clean (file_told keeper.database) (file_leaves keeper.database)) }
 {
     match DurableKeeper::new(connection) {
-        Ok(inner) => Ok(FileKeeper { inner }),
-        Err(fault) => Err(OpenFault::Start(fault)),
+        Ok(keeper) => Ok(keeper),
+        Err((fault, _refused)) => Err(OpenFault::Start(fault)),
     }
 }
 
 impl Keeper for FileKeeper {
     ghost use Rattle.std.specs.Prelude.{false};
     ghost use Rattle.sqlite.specs.Files.{file_state};
-    ghost use Rattle.sqlite_durable.specs.Turned.{records_in};
-    ghost use Rattle.sqlite_durable.specs.Durable.{while_open};
+    ghost use Rattle.sqlite_durable_file.specs.Found.{file_leaves, file_told};
 
-    ghost records = { λ k. while_open (file_state k.inner.database).is_open (records_in (file_state k.inner.database).now) };
+    ghost records = { λ k. file_told k.inner.database };
 
     ghost faults = { λ k. k.inner.faults };
 
@@ -86,6 +120,10 @@ impl Keeper for FileKeeper {
     ghost steady = { λ _. false };
 
     ghost settles = { λ k. k.inner.settles };
+
+    ghost lasts = { λ k. (file_state k.inner.database).is_clean };
+
+    ghost leaves = { λ k. file_leaves k.inner.database };
 
     fn read(&mut self, alloc: Global, key: &RecordKey) -> Result<Option<Bytes>, KeeperFault> {
         self.inner.read(alloc, key)

@@ -3,4 +3,4 @@
 
 mod keeper;
 
-pub use keeper::{FileKeeper, OpenFault, empty_log, settle_boxed};
+pub use keeper::{FileKeeper, OpenFault, empty_log, open_from, settle_boxed};
