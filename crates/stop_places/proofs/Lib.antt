@@ -1,0 +1,2 @@
+mod Doubts
+mod Places
