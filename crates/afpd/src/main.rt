@@ -7,20 +7,21 @@ mod closing;
 mod doors;
 mod opening;
 
+use afp_base::OutOfMemory;
 use afp_core::Counts;
-use afp_outside::{OpenGate, Sink, StdSink, SystemClock, TcpDoor};
+use afp_outside::{OpenGate, StdSink, SystemClock, TcpDoor};
 use afpd_lib::WordFault;
 use afpd_lib::server::ends::{RunEnd, report_end};
 use afpd_lib::server::given::given_words;
-use afpd_lib::server::notes::NoNotes;
+use afpd_lib::server::notes::{Notes, PortNotes, port_remedy};
 use afpd_lib::server::server::{Finish, afpd};
 use afpd_lib::server::setup::{ServerSettings, VolumePlace, setup};
 use closing::close_logs;
-use doors::doors_at;
+use doors::{doors_at, number_of, open_port};
 use opening::{PlaceKeeper, open_place};
 use record_keeper::Keeper;
 use std::io;
-use std::net::{Ipv4Addr, TcpListener};
+use std::net::TcpListener;
 use std::process::ExitCode;
 use std::random::RandomSource;
 use std::sync::Wait;
@@ -33,20 +34,30 @@ fn token_key(rt: &HostRuntime) -> io::Result<[u8; 32]> {
     Ok(key)
 }
 
-/// Whether a port can be opened; where it cannot, a person is told why.
-fn is_port_free(rt: &HostRuntime, port: u16) -> bool {
-    match TcpListener::bind(rt, (Ipv4Addr::UNSPECIFIED, port)) {
-        Ok(_) => true,
+/// Opens the port that the words ask for; where it cannot be opened, a person is told why, and what to do.
+fn listener_at(rt: &HostRuntime, port: u16) -> Option<TcpListener> {
+    match open_port(rt, port) {
+        Ok(listener) => Some(listener),
         Err(error) => {
-            let _told = eprintln!(rt; "error: port {port}: {error}");
-            false
+            let remedy = port_remedy(error.kind());
+            let _told = eprint!(rt; "error: port {port}: {error}: {remedy}");
+            None
         }
     }
 }
 
+/// As many places in memory.
+fn in_memory(rt: &HostRuntime, places: &[VolumePlace]) -> Result<Vec<VolumePlace>, OutOfMemory> {
+    let mut made = Vec::new(rt.alloc());
+    for _ in places {
+        made.push(VolumePlace::Memory)?;
+    }
+    Ok(made)
+}
+
 /// Serves the links that come through the doors, over a keeper for each place, and gives the exit status. Without a key of session tokens none is
 /// served. `threads` is the host once more, by what it is asked for: workers.
-fn serve<R: Threads + Wait + Sync, P: Sink>(
+fn serve<R: Threads + Wait + Sync, P: Notes>(
     threads: &R,
     rt: &HostRuntime,
     words: &[String],
@@ -68,7 +79,7 @@ fn serve<R: Threads + Wait + Sync, P: Sink>(
 }
 
 /// The same with this key.
-fn serve_kept<R: Threads + Wait + Sync, P: Sink>(
+fn serve_kept<R: Threads + Wait + Sync, P: Notes>(
     threads: &R,
     rt: &HostRuntime,
     words: &[String],
@@ -116,24 +127,39 @@ fn serve_kept<R: Threads + Wait + Sync, P: Sink>(
     status
 }
 
-/// Serves as the words set it. Nobody is told that it listens where the port cannot be opened.
-fn serve_set<R: Threads + Wait + Sync>(
+/// Serves as the words set it, with the doors at this port, if it is open. Where it is not, no file of a volume is opened or made, each door fails, and
+/// nobody is told that the server listens.
+fn serve_at<R: Threads + Wait + Sync>(
     threads: &R,
     rt: &HostRuntime,
     words: &[String],
     settings: &ServerSettings,
+    listener: Option<TcpListener>,
     report: &mut StdSink<&HostRuntime>,
 ) -> u8 {
-    let is_free = is_port_free(rt, settings.port);
-    let Ok(doors) = doors_at(rt, settings.port, settings.workers, settings.links) else {
+    let port = match &listener {
+        Some(listener) => Some(number_of(listener, settings.port)),
+        None => None,
+    };
+    let mut notes = PortNotes::new(StdSink::new(rt.stderr()), port);
+    let Ok(doors) = doors_at(rt, listener, settings.workers, settings.links) else {
         return report_end(RunEnd::Memory, report);
     };
     let places = settings.places.as_slice();
-    if is_free {
-        let mut notes = StdSink::new(rt.stderr());
-        serve(threads, rt, words, places, doors, report, &mut notes)
-    } else {
-        serve(threads, rt, words, places, doors, report, &mut NoNotes)
+    if port.is_some() {
+        return serve(threads, rt, words, places, doors, report, &mut notes);
+    }
+    match in_memory(rt, places) {
+        Ok(places) => serve(
+            threads,
+            rt,
+            words,
+            places.as_slice(),
+            doors,
+            report,
+            &mut notes,
+        ),
+        Err(_) => report_end(RunEnd::Memory, report),
     }
 }
 
@@ -148,9 +174,12 @@ fn run<R: Threads + Wait + Sync>(
     };
     let words = words.as_slice();
     match setup(rt.alloc(), words) {
-        Ok(settings) => serve_set(threads, rt, words, &settings, report),
+        Ok(settings) => {
+            let listener = listener_at(rt, settings.port);
+            serve_at(threads, rt, words, &settings, listener, report)
+        }
         Err(WordFault::Bad) => {
-            let mut notes = StdSink::new(rt.stderr());
+            let mut notes = PortNotes::new(StdSink::new(rt.stderr()), None);
             let doors = Vec::new(rt.alloc());
             serve(threads, rt, words, &[], doors, report, &mut notes)
         }
