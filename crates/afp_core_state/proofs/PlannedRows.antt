@@ -11,7 +11,7 @@ use Rattle.afp_calls_grammar.specs.declared.grammar.call.Call.{Call}
 use Rattle.afp_serial.specs.Answer.{refusal_reply, verdict_of_row}
 use Rattle.afp_serial.specs.World.{Effect, CallRow, plain, user_of, World, Session}
 use Rattle.afp_serial.specs.OnVolume.{done_on, opened_on}
-use Rattle.volume_keeper.specs.kept.Commits.{Commits, HasEdits}
+use Rattle.volume_keeper.specs.kept.Commits.{Commits, HasEdits, MayCommit}
 use Rattle.afp_serial.specs.VolumeRows.{edits_on, keeper_of_edits, with_edits}
 use Rattle.afp_serial.specs.Rows.{committed, effect, ends_session, refusal}
 use Rattle.afp_serial.specs.declared.ask.Outcome.{Outcome}
@@ -36,7 +36,7 @@ use Rattle.afp_core_state.specs.OnVolumes.{BecomesKept, IsOpen, IsOpenAt, IsUser
 use Rattle.afp_core_state.specs.Running.{done, IsOutcomeOf, RunsRow, RunsVerdict}
 use Rattle.afp_core_state.proofs.RowLemmas.{has_effect, is_refused}
 use Rattle.afp_core_state.proofs.OnVolumeLemmas.{found-at, keeper-at, keeper-fails, kept-stays, refused-on, set-same, state-at, state-changes, told-effect}
-use Rattle.afp_core_state.specs.Planned.{MayCommit, MayCommitAt, RunsCommit, RunsPlan, TellsCommitted}
+use Rattle.afp_core_state.specs.Planned.{MayCommitAt, RunsCommit, RunsPlan, TellsCommitted}
 use Rattle.afp_core_state.specs.RowKinds.{ChangesVolume, IsToldWhereDone}
 use Rattle.std.proofs.lemmas.List.{length-map}
 use Rattle.std.proofs.lemmas.Option.{same_Some}
@@ -74,11 +74,14 @@ module _ (k : KeptWorld) (index user : ℕ) (v : VolumeState) (asked : VolumeCal
   pub commit-memory : (new : KeptWorld) → BecomesKept k index (λ old one. Commits old plan (Err keeper.Memory) one) new → new ≡ k
   commit-memory new b = b.now ∙ ap (with_kept k index) b.is.1 ∙ kept-stays k index b.old b.was
 
--- a plan of a call may be committed
+-- a plan of the volume at an index may be committed to it
+pub commits-at : (k : KeptWorld) (index : ℕ) (v : VolumeState) (answer : Result PlanValue PlanFault) → slice_get k.world.volumes index ≡ Some v → IfOk answer (MayCommit v) → IfOk answer (λ plan. MayCommitAt k index plan)
+commits-at k index v (with_ok plan) there may = λ x at. subst (λ (y : VolumeState). MayCommit y plan) (same_Some v x (sym there ∙ at)) may
+commits-at k index v (Err e) there may = tt
+
 pub plans-commit : (k : KeptWorld) (index user : ℕ) (v : VolumeState) (now : ℕ) (asked : VolumeCall) (answer : Result PlanValue PlanFault) → slice_get k.world.volumes index ≡ Some v
     → IfOk answer (Plans v user now asked) → IfOk answer (λ plan. MayCommitAt k index plan)
-plans-commit k index user v now asked (with_ok plan) there plans = λ x at.
-    subst (λ (y : VolumeState). MayCommit y plan) (same_Some v x (sym there ∙ at)) record { may = plans.may; before = plans.before; typed = plans.typed }
+plans-commit k index user v now asked (with_ok plan) there plans = commits-at k index v (with_ok plan) there record { may = plans.may; before = plans.before; typed = plans.typed }
 plans-commit k index user v now asked (Err e) there plans = tt
 
 -- the volume at an index, and a plan of it

@@ -1,6 +1,5 @@
 -- A call that was planned of a volume comes to its end: its plan is committed to the volume's keeper and carried out, or it was refused (this profile).
-use Rattle.std.specs.Prelude.{◌≡◌, ℕ, true, false, List, Result, Ok, Err, Some, slice_get}
-use Rattle.std.specs.List.{list_all}
+use Rattle.std.specs.Prelude.{◌≡◌, ℕ, false, List, Result, Ok, Err, Some, slice_get}
 use Rattle.afp_base.specs.declared.bytes.OutOfMemory.{OutOfMemory}
 use Rattle.afp_base.specs.declared.code.Code.TheVariants as code
 use Rattle.afp_core_state.specs.KeptWorld.{KeptWorld}
@@ -13,21 +12,13 @@ use Rattle.afp_serial.specs.declared.ask.Told.{Told}
 use Rattle.afp_serial.specs.declared.ask.Told.TheVariants.{Reply}
 use Rattle.record_keeper.specs.declared.keeper.KeeperFault.{KeeperFault}
 use Rattle.record_keeper.specs.declared.keeper.KeeperFault.TheVariants as keeper
-use Rattle.volume_edits.specs.edits.Planned.{PlanValue, StandOn, edits_of}
-use Rattle.volume_keeper.specs.kept.Commits.{Commits}
-use Rattle.volume_spec.specs.EditLaws.{MayEditAll}
-use Rattle.volume_spec.specs.EditRanges.{is_typed_edit}
+use Rattle.volume_edits.specs.edits.Planned.{PlanValue}
+use Rattle.volume_keeper.specs.kept.Commits.{Commits, MayCommit}
 use Rattle.volume_spec.specs.VolumeState.{VolumeState}
 use Rattle.volume_tree.specs.declared.resolve.PlanFault.{PlanFault}
 use Rattle.volume_tree.specs.declared.resolve.PlanFault.TheVariants as fault
 
--- the edits of a plan may be made of a volume, and their numbers are in their ranges
-pub record MayCommit (v : VolumeState) (plan : PlanValue) : Type 0 where
-  pub may : MayEditAll v (edits_of plan.edits)
-  pub before : StandOn v plan.edits
-  pub typed : list_all is_typed_edit (edits_of plan.edits) ≡ true
-
--- so is it of the volume at an index
+-- the plan may be committed to the volume at an index
 abbrev pub MayCommitAt : KeptWorld → ℕ → PlanValue → Type 0
 MayCommitAt k index plan = (v : VolumeState) → slice_get k.world.volumes index ≡ Some v → MayCommit v plan
 

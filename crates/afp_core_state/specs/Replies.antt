@@ -8,8 +8,6 @@ use Rattle.afp_serial.specs.declared.ask.Outcome.{Outcome}
 use Rattle.afp_serial.specs.declared.ask.Outcome.TheVariants as outcome
 use Rattle.afp_serial.specs.declared.ask.Told.{Told}
 use Rattle.afp_serial.specs.declared.ask.Told.TheVariants.{Reply}
-use Rattle.volume_keeper.specs.declared.kept.change.ChangeFault.{ChangeFault}
-use Rattle.volume_keeper.specs.declared.kept.change.ChangeFault.TheVariants as change
 use Rattle.record_keeper.specs.declared.keeper.KeeperFault.{KeeperFault}
 use Rattle.record_keeper.specs.declared.keeper.KeeperFault.TheVariants as keeper
 use Rattle.volume_tree.specs.declared.resolve.PlanFault.{PlanFault}
@@ -32,14 +30,3 @@ TellsSettled (Err keeper.Failed) (Ok r) = r ≡ (refusal_reply code.MiscErr, out
 TellsSettled (Err keeper.Failed) (Err e) = ⊥
 TellsSettled (Err keeper.Memory) (Ok r) = ⊥
 TellsSettled (Err keeper.Memory) (Err e) = Unit {0}
-
--- what is told of a change, by these bytes where it is done
-abbrev pub TellsChanged : Result (Unit {0}) ChangeFault → List ℕ → Result (Told × Outcome) OutOfMemory → Type 0
-TellsChanged (Ok changed) block (Ok r) = r ≡ done (Reply code.Ok block false)
-TellsChanged (Ok changed) block (Err e) = ⊥
-TellsChanged (Err (change.Refused code)) block (Ok r) = r ≡ done (refusal_reply code)
-TellsChanged (Err (change.Refused code)) block (Err e) = ⊥
-TellsChanged (Err change.Failed) block (Ok r) = r ≡ (refusal_reply code.MiscErr, outcome.Fault)
-TellsChanged (Err change.Failed) block (Err e) = ⊥
-TellsChanged (Err change.Memory) block (Ok r) = ⊥
-TellsChanged (Err change.Memory) block (Err e) = Unit {0}

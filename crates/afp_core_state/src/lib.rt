@@ -13,5 +13,5 @@ mod state;
 pub use forks::OpenForks;
 pub use on_fork::OwnFork;
 pub use planned::{commit_plan, latest, run_plan, whole_at};
-pub use replies::{done, parms_room, refused, told_changed, told_of, told_settled};
+pub use replies::{done, parms_room, refused, told_of, told_settled};
 pub use state::State;

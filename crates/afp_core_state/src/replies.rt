@@ -1,6 +1,6 @@
 //! What calls are told.
 ghost use Rattle.std.specs.Prelude.{◌≡◌, [], false, IfOk};
-ghost use Rattle.afp_core_state.specs.Replies.{Tells, TellsChanged, TellsSettled};
+ghost use Rattle.afp_core_state.specs.Replies.{Tells, TellsSettled};
 ghost use Rattle.afp_base.specs.declared.code.Code.{Code};
 ghost use Rattle.afp_serial.specs.declared.ask.Told.{Told};
 ghost use Rattle.afp_serial.specs.Answer.{refusal_reply};
@@ -9,7 +9,6 @@ use afp_base::{Bytes, Code, OutOfMemory};
 use afp_serial::{Outcome, Told};
 use record_keeper::KeeperFault;
 use std::alloc::Global;
-use volume_keeper::ChangeFault;
 use volume_tree::PlanFault;
 
 /// Bytes that most replies with parameters do not pass: their memory is taken once.
@@ -70,21 +69,5 @@ pub fn told_settled(
         Ok(()) => Ok((done(Bytes::new(alloc)), Outcome::Done)),
         Err(KeeperFault::Failed) => Ok((refused(alloc, Code::MiscErr), Outcome::Fault)),
         Err(KeeperFault::Memory) => Err(OutOfMemory),
-    }
-}
-
-/// What is told of a change of a volume: `block`, where it is done.
-pub fn told_changed(
-    alloc: Global,
-    answer: Result<(), ChangeFault>,
-    block: Bytes,
-) -> Result<(Told, Outcome), OutOfMemory>
-    ensures { TellsChanged answer block result }
-{
-    match answer {
-        Ok(()) => Ok((done(block), Outcome::Done)),
-        Err(ChangeFault::Refused(code)) => Ok((refused(alloc, code), Outcome::Done)),
-        Err(ChangeFault::Failed) => Ok((refused(alloc, Code::MiscErr), Outcome::Fault)),
-        Err(ChangeFault::Memory) => Err(OutOfMemory),
     }
 }

@@ -1,5 +1,6 @@
 //! What comes of lines.
-ghost use Rattle.std.specs.Prelude.{IsSome};
+ghost use Rattle.std.specs.Prelude.{◌≡◌, IfOk, IsSome};
+ghost use Rattle.volume_keeper.specs.kept.Commits.{MayCommit};
 ghost use Rattle.volume_edits.specs.plans.Requests.{tree_call};
 
 use crate::noting::NotingKeeper;
@@ -7,11 +8,12 @@ use crate::spent::spent_keeper;
 use afp_base::{Moment, NodeId, OutOfMemory, VolumeId};
 use afp_calls_grammar::Call;
 use afp_names::{LONGEST_PATH, Name, Path, UTF8_NAMES};
-use deny_modes::Opens;
+use deny_modes::{ForkKey, Opens};
 use record_keeper::{Change, KeeperFault, MemoryKeeper};
 use std::alloc::Global;
 use test_lines::LineResult;
-use volume_keeper::{ChangeFault, KeptVolume};
+use volume_edits::{Plan, plan_tree_call};
+use volume_keeper::{KeptVolume, plan_fork_length, plan_fork_write};
 use volume_spec::limits::GUEST;
 use volume_tree::PlanFault;
 
@@ -33,13 +35,14 @@ fn path_of(alloc: Global, text: &str) -> Option<Path> {
     }
 }
 
-/// What comes of a change of the volume.
-fn change_result(changed: Result<(), ChangeFault>) -> LineResult {
-    match changed {
-        Ok(()) => LineResult::Word("ok"),
-        Err(ChangeFault::Refused(code)) => LineResult::Code(code.number()),
-        Err(ChangeFault::Failed) => LineResult::Word("failed"),
-        Err(ChangeFault::Memory) => LineResult::Word("no memory"),
+/// The data fork of a file of volume 1.
+fn data_fork(file: NodeId) -> ForkKey
+    ensures node { result.node ≡ file.0 }
+{
+    ForkKey {
+        volume: VolumeId(1),
+        node: file,
+        resource: false,
     }
 }
 
@@ -80,7 +83,25 @@ impl Run {
     {
         let none = Opens::new(alloc);
         let opens = none.on(VolumeId(1));
-        change_result(self.kept.change(alloc, GUEST, self.now, &opens, None, call))
+        let whole = self.kept.whole();
+        let planned = plan_tree_call(alloc, whole, GUEST, self.now, &opens, call);
+        self.commit(alloc, planned)
+    }
+
+    /// What comes of a plan of the volume as it is.
+    fn commit(&mut self, alloc: Global, planned: Result<Plan, PlanFault>) -> LineResult
+        requires { IfOk planned (MayCommit self.old.kept.state) }
+    {
+        let plan = match planned {
+            Ok(plan) => plan,
+            Err(PlanFault::Code(code)) => return LineResult::Code(code.number()),
+            Err(PlanFault::Memory) => return LineResult::Word("no memory"),
+        };
+        match self.kept.commit(alloc, plan) {
+            Ok(()) => LineResult::Word("ok"),
+            Err(KeeperFault::Failed) => LineResult::Word("failed"),
+            Err(KeeperFault::Memory) => LineResult::Word("no memory"),
+        }
     }
 
     /// Asks FPCreateDir of volume 1: directory ID, pathname. A text that is no path asks nothing.
@@ -128,10 +149,10 @@ impl Run {
         if !self.kept.has_file(file) {
             return LineResult::Word("no file");
         }
-        change_result(
-            self.kept
-                .set_fork_length(alloc, self.now, file, false, length),
-        )
+        let fork = data_fork(file);
+        let whole = self.kept.whole();
+        let planned = plan_fork_length(alloc, whole, self.now, &fork, length);
+        self.commit(alloc, planned)
     }
 
     /// Bytes are written to the data fork of a file, the first of them at a place.
@@ -142,10 +163,10 @@ impl Run {
         let Ok(piece) = hex::decode(alloc, digits) else {
             return LineResult::Word("no bytes");
         };
-        change_result(
-            self.kept
-                .write_fork(alloc, self.now, file, false, place, piece.as_slice()),
-        )
+        let fork = data_fork(file);
+        let whole = self.kept.whole();
+        let planned = plan_fork_write(alloc, whole, self.now, &fork, place, piece.as_slice());
+        self.commit(alloc, planned)
     }
 
     /// The changes that the keeper was given last.

@@ -6,7 +6,7 @@ pub mod kept;
 mod loading;
 mod replies;
 
-pub use kept::{ChangeFault, KeptVolume, Reason};
+pub use kept::{KeptVolume, Reason, plan_fork_length, plan_fork_write};
 pub use loading::{LoadFault, load};
 pub use replies::{
     ListAsked, get_file_dir_parms, get_vol_parms, list, node_params, open_dir, open_fork,

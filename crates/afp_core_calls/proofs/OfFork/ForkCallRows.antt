@@ -27,15 +27,15 @@ use Rattle.volume_spec.specs.ForkEffect.{fork_of, would_pass}
 use Rattle.volume_spec.specs.OpenFork.{fork_values}
 use Rattle.volume_spec.specs.SetForkParms.{asks_length, has_no_length, length_in}
 use Rattle.afp_core_state.specs.OnForks.{IsForkAt}
-use Rattle.afp_core_state.specs.OnVolumes.{BecomesKept}
-use Rattle.afp_core_state.specs.Replies.{TellsChanged}
+use Rattle.afp_core_state.specs.Planned.{RunsPlan}
 use Rattle.afp_core_state.specs.KeptWorld.{KeptWorld}
 use Rattle.afp_core_calls.specs.fork.lemma.SettingLength.{length_refusal}
 use Rattle.afp_core_state.specs.Running.{RunsRow}
 use Rattle.afp_core_state.specs.declared.on_fork.OwnFork.{OwnFork}
-use Rattle.afp_core_calls.proofs.OfFork.OnForkLemmas.{RowOnFork, fork-gives}
-use Rattle.volume_keeper.specs.kept.ForkChanging.{GivesBytes}
-use Rattle.volume_keeper.specs.declared.kept.change.ChangeFault.{ChangeFault}
+use Rattle.afp_core_calls.proofs.OfFork.OnForkLemmas.{RowOnFork, fork-plans}
+use Rattle.volume_keeper.specs.kept.ForkChanging.{PlansBytes}
+use Rattle.volume_edits.specs.edits.Planned.{PlanValue}
+use Rattle.volume_tree.specs.declared.resolve.PlanFault.{PlanFault}
 
 pub close_fork-row : (reference : ForkRef) → RowOnFork (call.CloseFork reference) reference.0 (λ w f. []) (λ w f. with_empty_reply (closing w (λ (o : OpenFork). not (o.reference == reference.0)))) keeps_all
 unfolding row
@@ -145,15 +145,14 @@ module _ (k : KeptWorld) (number : ℕ) (reference : ForkRef) (own : OwnFork) (h
           → first_holding (set_fork_parms_refusals bits tail k.world here.file) ≡ first_holding ((b, plain DiskFull) ∷ [])
       set-passes b unlocked h = set-behind ∙ rw (writes, unlocked, h) refl
 
-      pub set-runs : HasLength → is_locked_between k.world here.file.fork (length bytes) len ≡ false → (new : KeptWorld) (answer : Result (Unit {0}) ChangeFault) (block : List ℕ) (result : Result (Told × Outcome) OutOfMemory)
-          → BecomesKept k own.index (λ old one. GivesBytes old k.world.latest own.fork.node own.fork.resource (not (len == length bytes)) bytes (resized bytes len) answer one) new
-          → block ≡ [] → TellsChanged answer block result → RunsRow k number (call.SetForkParms reference bits tail) result new
-      set-runs law unlocked new answer block result b empty tells =
+      pub set-runs : HasLength → is_locked_between k.world here.file.fork (length bytes) len ≡ false → (new : KeptWorld) (answer : Result PlanValue PlanFault) (block : List ℕ) (result : Result (Told × Outcome) OutOfMemory)
+          → PlansBytes here.file.volume k.world.latest own.fork.node own.fork.resource (not (len == length bytes)) bytes (resized bytes len) answer
+          → block ≡ [] → RunsPlan k own.index answer block result new → RunsRow k number (call.SetForkParms reference bits tail) result new
+      set-runs law unlocked new answer block result plans empty runs =
           let length_is : length_in here.file.fork.fork.resource bits tail ≡ len = ap (λ r. length_in r bits tail) resource-is ∙ sym len_is in
           let many : length (resized bytes len) ≡ len = law bytes len in
-          fork-gives k number (call.SetForkParms reference bits tail) reference.0 _ _ _ (set_fork_parms-row reference bits tail) own here (not (len == length bytes)) bytes (resized bytes len) Empty
-          (λ h. set-passes false unlocked (ap (would_pass here.file.volume (length bytes)) (sym many) ∙ h))
-          (λ h. set-passes true unlocked (ap (would_pass here.file.volume (length bytes)) (sym many) ∙ h))
+          fork-plans k number (call.SetForkParms reference bits tail) reference.0 _ _ _ (set_fork_parms-row reference bits tail) own here (not (len == length bytes)) bytes (resized bytes len) Empty
+          (λ b h. set-passes b unlocked (ap (would_pass here.file.volume (length bytes)) (sym many) ∙ h))
           (λ i. with_empty_reply (with_bytes k.world here.file (not (length_is i == length (fork_of (resource-is i) here.file.file))) (resized (fork_of (resource-is i) here.file.file) (length_is i))))
           (λ i. keeper_if (not (length_is i == length (fork_of (resource-is i) here.file.file))) here.file)
-          new answer block result b empty tells
+          answer block result new plans (λ room. empty) runs

@@ -1,5 +1,5 @@
 -- Rows of calls on an open fork of the session.
-use Rattle.std.proofs.Common.{◌≡◌, ◌==◌, ◌∙◌, ap, sym, refl, subst, ℕ, Bool, true, false, List, [], length, Option, Some, None, add-one}
+use Rattle.std.proofs.Common.{◌≡◌, ◌==◌, ◌∙◌, ap, sym, refl, subst, ℕ, Bool, true, false, List, [], ◌∷◌, length, Option, Some, None, add-one}
 use Rattle.std.specs.Prelude.{Result, Ok as with_ok, Err, bit_and, slice_get, slice_set}
 use Rattle.std.proofs.lemmas.Bool.{eqb-true, not-false}
 use Rattle.std.proofs.lemmas.Option.{same_Some}
@@ -21,28 +21,30 @@ use Rattle.afp_serial.specs.declared.ask.Outcome.{Outcome}
 use Rattle.afp_serial.specs.declared.ask.Outcome.TheVariants as outcome
 use Rattle.afp_serial.specs.declared.ask.Told.{Told}
 use Rattle.afp_serial.specs.declared.ask.Told.TheVariants.{Reply}
-use Rattle.volume_spec.specs.ForkEffect.{fork_effect, would_pass}
+use Rattle.volume_spec.specs.ForkEffect.{fork_effect, fork_of, would_pass}
 use Rattle.volume_spec.specs.SoundVolume.{has_file}
 use Rattle.volume_spec.specs.VolumeState.{Row as File, VolumeState}
 use Rattle.volume_spec.specs.Walk.{row_at}
 use Rattle.afp_core_state.specs.OnForks.{IsFork, IsForkAt}
 use Rattle.afp_core_state.specs.KeeperSettles.{SettlesRow}
-use Rattle.afp_core_state.specs.OnVolumes.{BecomesKept, IsKeptAt, with_kept}
-use Rattle.afp_core_state.specs.Replies.{TellsChanged, TellsSettled}
+use Rattle.afp_core_state.specs.OnVolumes.{BecomesKept}
+use Rattle.afp_core_state.specs.Planned.{RunsPlan}
+use Rattle.afp_core_state.specs.Replies.{TellsSettled}
 use Rattle.afp_core_state.specs.KeptWorld.{KeptWorld}
 use Rattle.session_table.specs.Sessions.{session_of}
 use Rattle.afp_core_state.specs.Running.{done, RunsRow, RunsVerdict}
 use Rattle.afp_core_state.specs.declared.on_fork.OwnFork.{OwnFork}
 use Rattle.afp_core_state.proofs.KeeperLemmas.{outcome-same}
-use Rattle.afp_core_state.proofs.OnVolumeLemmas.{keeper-fails, kept-stays, state-changes, told-effect}
+use Rattle.afp_core_state.proofs.OnVolumeLemmas.{keeper-fails, set-same, told-effect}
+use Rattle.afp_core_state.proofs.PlannedRows.{IsRowPlan, planned-row}
 use Rattle.afp_core_state.proofs.RowLemmas.{has_effect}
 use Rattle.afp_core_state.proofs.SettleLemmas.{fails-alone, names-keeper, refused-settles, settled-apart, settled-one, settles-row, wanting-stays}
 use Rattle.afp_core_state.proofs.SessionLemmas.{session_of-number}
 use Rattle.volume_keeper.specs.kept.Changing.{FailsIn, Settles}
-use Rattle.volume_keeper.specs.kept.ForkChanging.{GivesBytes, given}
-use Rattle.volume_keeper.specs.kept.Kept.{KeptState}
-use Rattle.volume_keeper.specs.declared.kept.change.ChangeFault.{ChangeFault}
-use Rattle.volume_keeper.specs.declared.kept.change.ChangeFault.TheVariants as change
+use Rattle.volume_keeper.specs.kept.ForkChanging.{GivesBytes, PlansBytes, given}
+use Rattle.volume_edits.specs.edits.Planned.{PlanValue}
+use Rattle.volume_tree.specs.declared.resolve.PlanFault.{PlanFault}
+use Rattle.volume_tree.specs.declared.resolve.PlanFault.TheVariants as fault
 use Rattle.record_keeper.specs.Settling.{settled_in}
 use Rattle.record_keeper.specs.declared.keeper.KeeperFault.{KeeperFault}
 use Rattle.record_keeper.specs.declared.keeper.KeeperFault.TheVariants as keeper
@@ -72,10 +74,6 @@ pub own-state : (k : KeptWorld) (number reference : ℕ) (own : OwnFork) (here :
 own-state k number reference own here v =
     ap (λ (f : Fork). with_state k.world.volumes f.volume v) here.fork_is ∙ ap (λ (n : ℕ). with_state k.world.volumes n v) (here.id ∙ add-one own.index)
 
--- the volume that is changed is the fork's
-pub same-volume : (k : KeptWorld) (number reference : ℕ) (own : OwnFork) (here : IsForkAt k number reference own) (old : KeptState) → IsKeptAt k own.index old → old.state ≡ here.file.volume
-same-volume k number reference own here old was = same_Some old.state here.file.volume (sym was.state ∙ here.volume)
-
 -- its node is a file of that volume
 pub own-file : (k : KeptWorld) (number reference : ℕ) (own : OwnFork) (here : IsForkAt k number reference own) (v : VolumeState) → slice_get k.world.volumes own.index ≡ Some v → has_file v.rows own.fork.node ≡ true
 own-file k number reference own here v there = subst (λ (x : VolumeState). has_file x.rows own.fork.node ≡ true) (same_Some here.file.volume v (sym here.volume ∙ there)) here.is_file
@@ -84,37 +82,29 @@ own-file k number reference own here v there = subst (λ (x : VolumeState). has_
 pub within-mask : (bits : ℕ) (outside : Bool) → outside ≡ false → outside ≡ is_outside file_mask bits → IsWithin file_mask bits
 within-mask bits outside none is = eqb-true (bit_and bits file_mask) bits (not-false (bit_and bits file_mask == bits) (sym is ∙ none))
 
--- what becomes of that volume, told for the file that it has there
-pub own-becomes : (k new : KeptWorld) (number reference : ℕ) (own : OwnFork) (here : IsForkAt k number reference own) (becomes : File → KeptState → KeptState → Type 0)
-    → BecomesKept k own.index (λ old one. (file : File) → row_at old.state.rows own.fork.node ≡ Some file → becomes file old one) new → BecomesKept k own.index (becomes here.file.file) new
-own-becomes k new number reference own here becomes b = record {
-  old = b.old;
-  one = b.one;
-  was = b.was;
-  is = b.is here.file.file (ap (λ (v : VolumeState). row_at v.rows own.fork.node) (same-volume k number reference own here b.old b.was) ∙ here.node);
-  now = b.now;
-}
+-- the world in which the fork was given other bytes, where some are given
+given-world : (k : KeptWorld) (number reference : ℕ) (own : OwnFork) (here : IsForkAt k number reference own) (writes : Bool) (bytes : List ℕ)
+    → record k.world { volumes = slice_set k.world.volumes own.index (given k.world.latest own.fork.node own.fork.resource writes bytes here.file.volume) } ≡ with_bytes k.world here.file writes bytes
+given-world k number reference own here false bytes = ap (λ (l : List VolumeState). record k.world { volumes = l }) (set-same k.world.volumes own.index here.file.volume here.volume)
+given-world k number reference own here true bytes =
+    let v = here.file.volume in
+    let effect_is : fork_effect k.world.latest own.fork.node own.fork.resource bytes true v ≡ fork_effect k.world.latest here.file.file.id here.file.fork.fork.resource bytes true v =
+    ap (λ (f : Fork). fork_effect k.world.latest own.fork.node f.resource bytes true v) (sym here.fork_is)
+    ∙ ap (λ (n : ℕ). fork_effect k.world.latest n here.file.fork.fork.resource bytes true v) (sym (row_at-id v.rows own.fork.node here.file.file here.node)) in
+    ap (λ (l : List VolumeState). record k.world { volumes = l }) (sym (own-state k number reference own here (fork_effect k.world.latest own.fork.node own.fork.resource bytes true v)))
+    ∙ ap (λ (x : VolumeState). with_volume_state k.world here.file.fork.fork.volume x) effect_is
 
--- another state of the fork's volume, whose keeper stays
-pub own-changes : (k new : KeptWorld) (number reference : ℕ) (own : OwnFork) (here : IsForkAt k number reference own) (old : KeptState) (v : VolumeState) → IsKeptAt k own.index old
-    → new ≡ with_kept k own.index (record old { state = v }) → new ≡ record k { world = with_volume_state k.world here.file.fork.fork.volume v }
-own-changes k new number reference own here old v was is =
-    is ∙ state-changes k own.index old v was
-    ∙ ap (λ (l : List VolumeState). record k { world = record k.world { volumes = l } }) (sym (own-state k number reference own here v))
-
--- other bytes of the fork, where some are given
-pub own-given : (k new : KeptWorld) (number reference : ℕ) (own : OwnFork) (here : IsForkAt k number reference own) (old : KeptState) (writes : Bool) (bytes : List ℕ) → IsKeptAt k own.index old
-    → new ≡ with_kept k own.index (record old { state = given k.world.latest own.fork.node own.fork.resource writes bytes old.state }) → new ≡ record k { world = with_bytes k.world here.file writes bytes }
-own-given k new number reference own here old false bytes was is = is ∙ kept-stays k own.index old was
-own-given k new number reference own here old true bytes was is =
-    let v = sym (same-volume k number reference own here old was) in
-    let id = row_at-id here.file.volume.rows own.fork.node here.file.file here.node in
-    let effect_is : fork_effect k.world.latest here.file.file.id here.file.fork.fork.resource bytes true here.file.volume ≡ fork_effect k.world.latest own.fork.node own.fork.resource bytes true old.state =
-    ap (λ (n : ℕ). fork_effect k.world.latest n here.file.fork.fork.resource bytes true here.file.volume) id
-    ∙ ap (λ (f : Fork). fork_effect k.world.latest own.fork.node f.resource bytes true here.file.volume) here.fork_is
-    ∙ ap (λ (x : VolumeState). fork_effect k.world.latest own.fork.node own.fork.resource bytes true x) v in
-    own-changes k new number reference own here old (fork_effect k.world.latest own.fork.node own.fork.resource bytes true old.state) was is
-    ∙ ap (λ (x : VolumeState). record k { world = with_volume_state k.world here.file.fork.fork.volume x }) (sym effect_is)
+-- what was planned of the volume at the index, for the file of the fork
+pub own-plans : (k : KeptWorld) (number reference : ℕ) (own : OwnFork) (here : IsForkAt k number reference own) (v : VolumeState) (now : ℕ) (writes : List ℕ → Bool) (after : List ℕ → List ℕ) (bytes : List ℕ) (answer : Result PlanValue PlanFault)
+    → slice_get k.world.volumes own.index ≡ Some v → now ≡ k.world.latest → fork_of own.fork.resource here.file.file ≡ bytes
+    → ((file : File) → row_at v.rows own.fork.node ≡ Some file → PlansBytes v now own.fork.node own.fork.resource (writes (fork_of own.fork.resource file)) (fork_of own.fork.resource file) (after (fork_of own.fork.resource file)) answer)
+    → PlansBytes here.file.volume k.world.latest own.fork.node own.fork.resource (writes bytes) bytes (after bytes) answer
+own-plans k number reference own here v now writes after bytes answer there at_now bytes_are plans =
+    let same : here.file.volume ≡ v = same_Some here.file.volume v (sym here.volume ∙ there) in
+    subst (λ (l : List ℕ). PlansBytes here.file.volume k.world.latest own.fork.node own.fork.resource (writes l) l (after l) answer) bytes_are
+    (subst (λ (n : ℕ). PlansBytes here.file.volume n own.fork.node own.fork.resource (writes (fork_of own.fork.resource here.file.file)) (fork_of own.fork.resource here.file.file) (after (fork_of own.fork.resource here.file.file)) answer) at_now
+    (subst (λ (x : VolumeState). PlansBytes x now own.fork.node own.fork.resource (writes (fork_of own.fork.resource here.file.file)) (fork_of own.fork.resource here.file.file) (after (fork_of own.fork.resource here.file.file)) answer) (sym same)
+    (plans here.file.file (subst (λ (x : VolumeState). row_at x.rows own.fork.node ≡ Some here.file.file) same here.node))))
 
 module _ (k : KeptWorld) (number : ℕ) (call : Call) (reference : ℕ) (refuses : World → OpenFile → List Refusal) (does : World → OpenFile → Effect) (commits : World → OpenFile → Option ℕ)
     (is : RowOnFork call reference refuses does commits) where
@@ -190,30 +180,26 @@ module _ (k : KeptWorld) (number : ℕ) (call : Call) (reference : ℕ) (refuses
 
     -- the fork is given other bytes, of some that it has; `reply` is what is told where that is done
     module _ (writes : Bool) (before after : List ℕ) (reply : AfpReply)
-        (passes : would_pass here.file.volume (length before) (length after) ≡ false → first_holding (refuses k.world here.file) ≡ None)
-        (full : would_pass here.file.volume (length before) (length after) ≡ true → first_holding (refuses k.world here.file) ≡ Some (plain DiskFull))
+        (left : (b : Bool) → would_pass here.file.volume (length before) (length after) ≡ b → first_holding (refuses k.world here.file) ≡ first_holding ((b, plain DiskFull) ∷ []))
         (effect_is : does k.world here.file ≡ record { world = with_bytes k.world here.file writes after; reply = reply })
         (names : commits k.world here.file ≡ keeper_if writes here.file) where
-      pass-at : (old : KeptState) → IsKeptAt k own.index old → (b : Bool) → would_pass old.state (length before) (length after) ≡ b → would_pass here.file.volume (length before) (length after) ≡ b
-      pass-at old was b = subst (λ (v : VolumeState). would_pass v (length before) (length after) ≡ b) (same-volume k number reference own here old was)
+      fork-plan : (plan : PlanValue) (block : List ℕ) → GivesBytes here.file.volume k.world.latest own.fork.node own.fork.resource writes before after plan → block ≡ canonical_reply reply
+          → IsRowPlan k number call own.index here.file.volume plan block
+      fork-plan plan block gives bytes = record {
+        of = record { world = with_bytes k.world here.file writes after; reply = reply };
+        does = λ s at. fork-does s at ∙ effect_is;
+        commits = λ some s at. fork-commits s at ∙ names ∙ ap (λ w. keeper_if w here.file) (gives.some some) ∙ own-keeper k number reference own here;
+        world = ap (λ (x : VolumeState). record k.world { volumes = slice_set k.world.volumes own.index x }) gives.effect ∙ given-world k number reference own here writes after;
+        bytes = bytes;
+      }
 
-      pub fork-gives : (new : KeptWorld) (answer : Result (Unit {0}) ChangeFault) (block : List ℕ) (result : Result (Told × Outcome) OutOfMemory)
-          → BecomesKept k own.index (λ old one. GivesBytes old k.world.latest own.fork.node own.fork.resource writes before after answer one) new
-          → block ≡ canonical_reply reply → TellsChanged answer block result → RunsRow k number call result new
-      fork-gives new (with_ok changed) block (with_ok r) b bytes tells =
-          subst (λ (x : Told × Outcome). RunsRow k number call (with_ok x) new) (sym tells)
-          (fork-done new (record { world = with_bytes k.world here.file writes after; reply = reply }) block (Reply Ok block false) (passes (pass-at b.old b.was false b.is.0)) effect_is
-          (own-given k new number reference own here b.old writes after b.was (b.now ∙ ap (with_kept k own.index) b.is.1)) bytes refl)
-      fork-gives new (with_ok changed) block (Err e) b bytes tells = absurd tells
-      fork-gives new (Err (change.Refused code)) block (with_ok r) b bytes tells =
-          subst (λ (x : Told × Outcome). RunsRow k number call (with_ok x) new) (sym tells)
-          (subst (λ (x : KeptWorld). RunsRow k number call (with_ok (done (refusal_reply code))) x) (sym (b.now ∙ ap (with_kept k own.index) b.is.2 ∙ kept-stays k own.index b.old b.was))
-          (fork-refused code (refusal_reply code) (full (pass-at b.old b.was true b.is.0) ∙ ap (λ (c : Code). Some (plain c)) (sym b.is.1)) refl))
-      fork-gives new (Err (change.Refused code)) block (Err e) b bytes tells = absurd tells
-      fork-gives new (Err change.Failed) block (with_ok r) b bytes tells =
-          subst (λ (x : Told × Outcome). RunsRow k number call (with_ok x) new) (sym tells)
-          (fork-fails new (refusal_reply MiscErr) (passes (pass-at b.old b.was false b.is.0)) (names ∙ ap (λ w. keeper_if w here.file) b.is.1)
-          record { old = b.old; one = b.one; was = b.was; is = b.is.2; now = b.now } refl)
-      fork-gives new (Err change.Failed) block (Err e) b bytes tells = absurd tells
-      fork-gives new (Err change.Memory) block (with_ok r) b bytes tells = absurd tells
-      fork-gives new (Err change.Memory) block (Err e) b bytes tells = b.now ∙ ap (with_kept k own.index) b.is ∙ kept-stays k own.index b.old b.was
+      pub fork-plans : (answer : Result PlanValue PlanFault) (block : List ℕ) (result : Result (Told × Outcome) OutOfMemory) (new : KeptWorld)
+          → PlansBytes here.file.volume k.world.latest own.fork.node own.fork.resource writes before after answer → (would_pass here.file.volume (length before) (length after) ≡ false → block ≡ canonical_reply reply)
+          → RunsPlan k own.index answer block result new → RunsRow k number call result new
+      fork-plans (with_ok plan) block result new plans bytes runs =
+          planned-row k number call is.goes_on own.index here.file.volume here.volume None (λ s at. fork-refuses s at ∙ left false plans.room) (with_ok plan) block result new refl
+          (λ passes. fork-plan plan block plans (bytes plans.room)) runs
+      fork-plans (Err (fault.Code code)) block result new plans bytes runs =
+          planned-row k number call is.goes_on own.index here.file.volume here.volume (Some code) (λ s at. fork-refuses s at ∙ left true plans.0 ∙ ap (λ (c : Code). Some (plain c)) (sym plans.1)) (Err (fault.Code code)) block result new refl tt runs
+      fork-plans (Err fault.Memory) block (with_ok r) new plans bytes runs = absurd runs
+      fork-plans (Err fault.Memory) block (Err e) new plans bytes runs = runs

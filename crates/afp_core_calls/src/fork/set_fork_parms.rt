@@ -1,7 +1,6 @@
 //! FPSetForkParms (AFP Reference, "FPSetForkParms"): the fork has another length.
-ghost use Rattle.std.specs.Prelude.{◌≡◌, ◌==◌, ◌<◌, None, Some, true, false, not, length, nat_lt, slice_get, IfErr, IfOk, MatchOption};
+ghost use Rattle.std.specs.Prelude.{◌≡◌, ◌<◌, None, Some, true, false, length, nat_lt, slice_get, IfErr, IfOk, MatchOption};
 ghost use Rattle.byteorder.specs.Endian.{big_number};
-ghost use Rattle.afp_base.specs.ForkBytes.{resized};
 ghost use Rattle.afp_calls_grammar.specs.declared.grammar.call.Call.{Call};
 ghost use Rattle.afp_serial.specs.Fork.{is_locked_between};
 ghost use Rattle.afp_serial.specs.World.{is_open, OpenFork as Opened};
@@ -10,17 +9,15 @@ ghost use Rattle.volume_spec.specs.SetForkParms.{ext_length_bits, length_bits, l
 ghost use Rattle.volume_spec.specs.SoundVolume.{has_file};
 ghost use Rattle.volume_spec.specs.VolumeState.{Row, VolumeState};
 ghost use Rattle.volume_spec.specs.Walk.{row_at};
-ghost use Rattle.afp_core_state.specs.OnVolumes.{BecomesKept};
 ghost use Rattle.afp_core_calls.specs.fork.lemma.SettingLength.{is_no_ext_length, length_refusal};
 ghost use Rattle.afp_core_state.specs.Running.{IsReady, RunsRow};
-ghost use Rattle.volume_keeper.specs.kept.ForkChanging.{GivesBytes};
 
 use afp_base::laws::resizing_keeps_the_front;
 use afp_base::{Bytes, Code, ForkRef, NodeId, OutOfMemory, Scan, SessionNumber};
-use afp_core_state::{State, refused, told_changed};
+use afp_core_state::{State, latest, refused, run_plan, whole_at};
 use afp_serial::{Outcome, Told};
 use record_keeper::Keeper;
-use volume_keeper::ChangeFault;
+use volume_keeper::plan_fork_length;
 
 /// The bits of a fork's length in 4 bytes and in 8 (AFP Reference, "File Bitmap").
 const DATA_LENGTH: u16 = 0x0200;
@@ -62,8 +59,10 @@ pub fn set_fork_parms<K: Keeper>(
     if is_locked_between(state, own.index, node, resource, reference, len) {
         return Ok((refused(state.alloc, Code::LockErr), Outcome::Done));
     }
-    let answer = set_length_at(state, own.index, node, resource, len);
-    told_changed(state.alloc, answer, Bytes::new(state.alloc))
+    let whole = whole_at(state, own.index);
+    let answer = plan_fork_length(state.alloc, whole, latest(state), &own.fork, len);
+    let nothing = Bytes::new(state.alloc);
+    run_plan(state, own.index, answer, nothing)
 }
 
 /// Whether another reference's lock covers a byte between the length of the fork of a reference that is open and another one.
@@ -95,22 +94,6 @@ fn length_at<K: Keeper>(state: &State<K>, index: usize, node: NodeId, resource: 
 {
     let volume = state.kept_at(index);
     volume.fork_size(node, resource)
-}
-
-/// Gives a fork of a file of the volume at an index another length.
-fn set_length_at<K: Keeper>(
-    state: &mut State<K>,
-    index: usize,
-    node: NodeId,
-    resource: bool,
-    len: u64,
-) -> Result<(), ChangeFault>
-    requires within { index < length state.old.world.volumes }
-    requires file { (v : VolumeState) → slice_get state.old.world.volumes index ≡ Some v → has_file v.rows node.0 ≡ true }
-    ensures { BecomesKept state.old index (λ old one. (file : Row) → row_at old.state.rows node.0 ≡ Some file
-        → GivesBytes old state.old.world.latest node.0 resource (not (len == length (fork_of resource file))) (fork_of resource file) (resized (fork_of resource file) len) result one) state.new }
-{
-    state.kept[index].set_fork_length(state.alloc, state.latest, node, resource, len)
 }
 
 /// The bits that ask for a fork's length in 4 bytes.

@@ -1,30 +1,23 @@
 //! FPWrite and FPWriteExt (AFP Reference, under these names).
 ghost use Rattle.std.specs.Int.{is_negative};
-ghost use Rattle.std.specs.Prelude.{◌≡◌, ◌+◌, ◌<◌, nat_lt, ℕ, ℤ, Some, true, false, length, slice_get, IfOk};
+ghost use Rattle.std.specs.Prelude.{◌≡◌, ◌+◌, ℕ, ℤ, true, false, length, IfOk};
 ghost use Rattle.afp_base.specs.Choice.{first_holding};
-ghost use Rattle.afp_base.specs.ForkBytes.{splice};
 ghost use Rattle.afp_replies.specs.Replies.{canonical_reply};
 ghost use Rattle.afp_calls_grammar.specs.declared.grammar.call.Call.{Call};
 ghost use Rattle.afp_serial.specs.ForkBytes.{is_from_end, writes};
 ghost use Rattle.afp_serial.specs.Rows.{ends_session, row};
 ghost use Rattle.afp_serial.specs.World.{is_open, OpenFork};
-ghost use Rattle.volume_spec.specs.ForkEffect.{fork_of};
-ghost use Rattle.volume_spec.specs.SoundVolume.{has_file};
-ghost use Rattle.volume_spec.specs.VolumeState.{Row, VolumeState};
-ghost use Rattle.volume_spec.specs.Walk.{row_at};
-ghost use Rattle.volume_keeper.specs.kept.ForkChanging.{GivesBytes};
 ghost use Rattle.afp_core_calls.specs.fork.lemma.OnForkBytes.{HasRoom, IsOffset, end_reply, write_asked, write_checks};
-ghost use Rattle.afp_core_state.specs.OnVolumes.{BecomesKept};
 ghost use Rattle.afp_core_state.specs.Running.{IsReady, RunsRow};
 
 use crate::fork::on_bytes::{is_from_end, is_locked, number_block, start_on};
 use afp_base::laws::splice_puts_between;
 use afp_base::{Bytes, Code, ForkRef, OutOfMemory, SessionNumber};
-use afp_core_state::{OwnFork, State, refused, told_changed};
+use afp_core_state::{OwnFork, State, latest, refused, run_plan, whole_at};
 use afp_serial::{Outcome, Told};
 use record_keeper::Keeper;
 use std::alloc::Global;
-use volume_keeper::ChangeFault;
+use volume_keeper::plan_fork_write;
 use volume_spec::laws::forks_are_given_bytes;
 
 /// The place behind a piece, as a reply tells it.
@@ -106,8 +99,9 @@ fn write_piece<K: Keeper>(
     let Ok(block) = end_block(state.alloc, wide, start, piece) else {
         return Err(OutOfMemory);
     };
-    let answer = write_at(state, &own, start, piece);
-    told_changed(state.alloc, answer, block)
+    let whole = whole_at(state, own.index);
+    let answer = plan_fork_write(state.alloc, whole, latest(state), &own.fork, start, piece);
+    run_plan(state, own.index, answer, block)
 }
 
 /// Why a piece may not be written into an open fork: its access mode, or a lock of another reference.
@@ -128,27 +122,4 @@ fn write_refused<K: Keeper>(
         return Some(Code::LockErr);
     }
     None
-}
-
-/// Writes a piece into a fork of the volume at an index.
-fn write_at<K: Keeper>(
-    state: &mut State<K>,
-    own: &OwnFork,
-    start: u64,
-    piece: &[u8],
-) -> Result<(), ChangeFault>
-    requires within { own.now.index < length state.old.world.volumes }
-    requires file { (v : VolumeState) → slice_get state.old.world.volumes own.now.index ≡ Some v → has_file v.rows own.now.fork.node ≡ true }
-    ensures { BecomesKept state.old own.now.index (λ old one. (file : Row) → row_at old.state.rows own.now.fork.node ≡ Some file
-        → GivesBytes old state.old.world.latest own.now.fork.node own.now.fork.resource (nat_lt 0 (length piece.now)) (fork_of own.now.fork.resource file)
-        (splice (fork_of own.now.fork.resource file) start piece.now) result one) state.new }
-{
-    state.kept[own.index].write_fork(
-        state.alloc,
-        state.latest,
-        own.fork.node,
-        own.fork.resource,
-        start,
-        piece,
-    )
 }

@@ -1,36 +1,44 @@
 -- What is owed where a fork gets other bytes.
-use Rattle.std.proofs.Common.{◌==◌, ◌≡◌, ◌∙◌, ap, sym, refl, subst, ℕ, ◌+◌, ◌<◌, ◌≤◌, arith, Bool, true, false, not, List, [], ◌∷◌, ◌++◌, ◌-◌, length, max, min, replicate, take, append-nil, Some, inl, inr}
-use Rattle.std.specs.Prelude.{Result, Ok, Err, nat_lt}
+use Rattle.std.proofs.Common.{◌==◌, ◌≡◌, ◌∙◌, ap, sym, refl, subst, ℕ, ◌+◌, ◌<◌, ◌≤◌, arith, Bool, true, false, not, List, [], ◌∷◌, ◌++◌, ◌-◌, length, max, min, replicate, take, append-nil, pos, Some, inl, inr}
+use Rattle.std.specs.Prelude.{IfOk, Result, Ok, Err, nat_lt}
 use Rattle.std.proofs.Math.Seq.{take-length}
 use Rattle.std.proofs.lemmas.Bool.{cases_lt, eq-eqb, le-ltb, lt-ltb}
 use Rattle.afp_base.proofs.DefinitionLaws.{length-resized}
 use Rattle.afp_base.specs.ForkBytes.{Reaches, resized, splice}
 use Rattle.fork_bytes.specs.Plan.{ForkWriteState}
 use Rattle.volume_spec.proofs.Formed.{limit-parts}
+use Rattle.volume_spec.specs.Edit.{after_call}
+use Rattle.volume_spec.specs.EditLaws.{ForkEffectsAreEdits}
 use Rattle.volume_spec.specs.ForkEffect.{fork_effect, fork_of, would_pass}
 use Rattle.afp_base.specs.Limits.{most_fork_bytes}
 use Rattle.volume_spec.specs.SoundVolume.{IsSoundVolume, fork_bytes, has_file}
-use Rattle.volume_spec.specs.TypedVolume.{are_bytes}
+use Rattle.volume_spec.specs.TypedVolume.{are_bytes, is_date}
 use Rattle.volume_spec.specs.VolumeState.{Row, VolumeState}
 use Rattle.volume_spec.specs.Walk.{row_at}
 use Rattle.volume_spec.specs.ForkLaws.{ForksAreFew, RoomIsFew}
 use Rattle.volume_keeper.proofs.OfKept.Files.{fork_is, found_in}
-use Rattle.volume_keeper.specs.kept.ForkChanging.{GivesBytes, given}
-use Rattle.volume_keeper.specs.kept.lemma.CarriedOut.{IsCarriedOut, IsWriteOf}
-use Rattle.volume_keeper.specs.kept.Kept.{KeptState}
-use Rattle.volume_keeper.specs.declared.kept.change.ChangeFault.{ChangeFault}
-use Rattle.volume_keeper.specs.declared.kept.change.ChangeFault.TheVariants.{Refused, Failed, Memory}
+use Rattle.volume_keeper.specs.kept.Commits.{HasEdits, MayCommit}
+use Rattle.volume_keeper.specs.kept.ForkChanging.{GivesBytes, PlansBytes, given}
+use Rattle.volume_keeper.specs.kept.lemma.PlannedWrites.{IsPlannedWrite, IsWriteOf}
+use Rattle.volume_edits.specs.edits.Planned.{EditValue, PlanValue, edits_of}
+use Rattle.volume_tree.specs.declared.resolve.PlanFault.{PlanFault}
+use Rattle.volume_tree.specs.declared.resolve.PlanFault.TheVariants as fault
 
 -- as many bytes pass no total
 same_fits : (v : VolumeState) → IsSoundVolume v → (n : ℕ) → would_pass v n n ≡ false
 unfolding would_pass
 same_fits v sound n = le-ltb (most_fork_bytes + n) (fork_bytes v.rows + n) (let few : fork_bytes v.rows ≤ most_fork_bytes = (limit-parts v sound.limits).bytes in omega (arith, few))
 
--- nothing is given
-pub nothing_given : (old : KeptState) → IsSoundVolume old.state → (now id : ℕ) (resource writes : Bool) (before after : List ℕ) → writes ≡ false → after ≡ before
-    → (would_pass old.state (length before) (length after) ≡ false) × (old ≡ record old { state = given now id resource writes after old.state })
-nothing_given old sound now id resource writes before after none same =
-    (ap (λ (l : List ℕ). would_pass old.state (length before) (length l)) same ∙ same_fits old.state sound (length before), ap (λ b. record old { state = given now id resource b after old.state }) (sym none))
+-- nothing is given: a plan of no edits
+pub nothing_given : (v : VolumeState) → IsSoundVolume v → (now id : ℕ) (resource writes : Bool) (before after : List ℕ) → writes ≡ false → after ≡ before → (plan : PlanValue) → plan.edits ≡ [] → GivesBytes v now id resource writes before after plan
+nothing_given v sound now id resource writes before after stays same plan none = record {
+  room = ap (λ (l : List ℕ). would_pass v (length before) (length l)) same ∙ same_fits v sound (length before);
+  effect = ap (λ (l : List EditValue). after_call v plan.moment (edits_of l)) none ∙ ap (λ b. given now id resource b after v) (sym stays);
+  some = λ has. let edits : HasEdits (record { moment = plan.moment; edits = [] }) = subst (λ (l : List EditValue). HasEdits (record { moment = plan.moment; edits = l })) none has in absurd (cc edits);
+}
+
+pub no_edits_may : (v : VolumeState) (plan : PlanValue) → plan.edits ≡ [] → MayCommit v plan
+no_edits_may v plan none = subst (λ (l : List EditValue). MayCommit v (record { moment = plan.moment; edits = l })) (sym none) (record { may = tt; before = tt; typed = refl })
 
 pub no_piece : (old piece : List ℕ) (start : ℕ) → length piece ≡ 0 → splice old start piece ≡ old
 no_piece old [] start e = refl
@@ -38,14 +46,6 @@ no_piece old (b ∷ bs) start e = absurd (omega (arith, e))
 
 pub no_bytes : (n : ℕ) → n ≡ 0 → nat_lt 0 n ≡ false
 no_bytes n e = ap (nat_lt 0) e
-
--- what was carried out is given
-pub carried_given : (old : KeptState) (now id : ℕ) (resource writes : Bool) (before after : List ℕ) → writes ≡ true → would_pass old.state (length before) (length after) ≡ false → (result : Result (Unit {0}) ChangeFault) (new : KeptState)
-    → IsCarriedOut old (fork_effect now id resource after true old.state) result new → GivesBytes old now id resource writes before after result new
-carried_given old now id resource writes before after some room (Ok done) new c = (room, c ∙ ap (λ b. record old { state = given now id resource b after old.state }) (sym some))
-carried_given old now id resource writes before after some room (Err (Refused code)) new c = absurd c
-carried_given old now id resource writes before after some room (Err Failed) new c = (room, some, c.0, c.1)
-carried_given old now id resource writes before after some room (Err Memory) new c = c
 
 -- what is written is a write of the file's fork as it is
 pub write_of : (v : VolumeState) → IsSoundVolume v → (id : ℕ) (resource : Bool) → has_file v.rows id ≡ true → (bytes wanted : List ℕ) → ((file : Row) → row_at v.rows id ≡ Some file → bytes ≡ fork_of resource file)
@@ -63,6 +63,21 @@ write_of v sound id resource e bytes wanted told room small write before after =
       before = fork_is v.rows id resource it.file it.found it.is_file ∙ ap (λ (l : List ℕ). Some l) (sym (before ∙ own));
       typed = ap are_bytes after ∙ small;
     }
+
+-- its plan may be committed, and gives the bytes
+pub write_may : (v : VolumeState) (now id : ℕ) (resource : Bool) → is_date (pos now) ≡ true → (write : ForkWriteState) → IsWriteOf v id resource write → (result : Result PlanValue PlanFault) → IsPlannedWrite now id resource write result → IfOk result (MayCommit v)
+write_may v now id resource date write may (Ok plan) is = subst (MayCommit v) (sym is) (record { may = (may.may, tt); before = (may.before, tt); typed = rw (date, may.typed) refl })
+write_may v now id resource date write may (Err e) is = tt
+
+pub write_gives : ForkEffectsAreEdits → (v : VolumeState) (now id : ℕ) (resource writes : Bool) (before after : List ℕ) → writes ≡ true → would_pass v (length before) (length after) ≡ false
+    → (write : ForkWriteState) → write.after ≡ after → (result : Result PlanValue PlanFault) → IsPlannedWrite now id resource write result → PlansBytes v now id resource writes before after result
+write_gives law v now id resource writes before after some room write after_is (Ok plan) is = record {
+  room = room;
+  effect = ap (λ (p : PlanValue). after_call v p.moment (edits_of p.edits)) is ∙ law v now id resource write.after ∙ ap (λ (l : List ℕ). fork_effect now id resource l true v) after_is ∙ ap (λ b. given now id resource b after v) (sym some);
+  some = λ has. some;
+}
+write_gives law v now id resource writes before after some room write after_is (Err (fault.Code code)) is = absurd is
+write_gives law v now id resource writes before after some room write after_is (Err fault.Memory) is = tt
 
 -- the place behind a piece, where numbers of 64 bits end below it, passes as the place itself does
 pub same_pass : Reaches → (v : VolumeState) (before piece : List ℕ) (start : ℕ) → (0 < length piece) → length before ≤ most_fork_bytes

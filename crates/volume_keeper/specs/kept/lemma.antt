@@ -1,2 +1,2 @@
 -- What the code goes by and what its proofs speak of; no public contract cites it.
-pub mod CarriedOut
+pub mod PlannedWrites

@@ -1,11 +1,6 @@
 //! Plans committed, and settling.
-ghost use Rattle.std.specs.Prelude.{◌≡◌, true};
-ghost use Rattle.std.specs.List.{list_all};
-ghost use Rattle.volume_spec.specs.EditLaws.{MayEditAll};
-ghost use Rattle.volume_spec.specs.EditRanges.{is_typed_edit};
-ghost use Rattle.volume_edits.specs.edits.Planned.{StandOn, edits_of};
 ghost use Rattle.volume_keeper.specs.kept.Changing.{Settles};
-ghost use Rattle.volume_keeper.specs.kept.Commits.{Commits};
+ghost use Rattle.volume_keeper.specs.kept.Commits.{Commits, MayCommit};
 
 use crate::kept::kept::KeptVolume;
 use record_keeper::{Keeper, KeeperFault};
@@ -17,9 +12,7 @@ impl<K: Keeper> KeptVolume<K> {
     /// Carries a plan of the volume as it is out: what it changes in the records is committed to the keeper, then the volume changes, for which no memory
     /// is taken. A plan of no edits commits nothing. At an error nothing has changed but, beside `Failed`, the keeper's count.
     pub fn commit(&mut self, alloc: Global, plan: Plan) -> Result<(), KeeperFault>
-        requires may { MayEditAll self.old.state (edits_of plan.edits) }
-        requires before { StandOn self.old.state plan.edits }
-        requires typed { list_all is_typed_edit (edits_of plan.edits) ≡ true }
+        requires { MayCommit self.old.state plan }
         ensures { Commits self.old plan result self.new }
     {
         if plan.is_empty() {

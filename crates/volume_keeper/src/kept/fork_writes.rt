@@ -1,26 +1,26 @@
-//! Other bytes of a fork of a volume beside its keeper.
-ghost use Rattle.std.specs.Prelude.{◌≡◌, ◌==◌, ◌≤◌, nat_lt, not, pos, Some, true, length, IfOk};
+//! Plans of other bytes of a fork.
+ghost use Rattle.std.specs.Prelude.{◌≡◌, ◌==◌, nat_lt, not, pos, Some, true, length, IfOk};
 ghost use Rattle.afp_base.specs.ForkBytes.{resized, splice};
-ghost use Rattle.volume_spec.specs.ForkEffect.{fork_effect, fork_of};
+ghost use Rattle.volume_spec.specs.ForkEffect.{fork_of};
 ghost use Rattle.volume_spec.specs.SoundVolume.{has_file};
 ghost use Rattle.volume_spec.specs.TypedVolume.{is_date};
 ghost use Rattle.volume_spec.specs.VolumeState.{Row};
 ghost use Rattle.volume_spec.specs.Walk.{row_at};
-ghost use Rattle.volume_keeper.specs.kept.ForkChanging.{GivesBytes};
-ghost use Rattle.volume_keeper.specs.kept.lemma.CarriedOut.{IsCarriedOut, IsWriteOf, plan_of_write};
+ghost use Rattle.volume_keeper.specs.kept.Commits.{MayCommit};
+ghost use Rattle.volume_keeper.specs.kept.ForkChanging.{PlansBytes};
+ghost use Rattle.volume_keeper.specs.kept.lemma.PlannedWrites.{IsPlannedWrite};
 
-use crate::kept::change::ChangeFault;
 use crate::kept::forks::fork_in;
-use crate::kept::kept::KeptVolume;
 use afp_base::laws::splice_puts_between;
-use afp_base::{Code, Moment, NodeId, OutOfMemory};
+use afp_base::{Code, Moment};
+use deny_modes::ForkKey;
 use fork_bytes::ForkWrite;
-use record_keeper::Keeper;
 use std::alloc::Global;
-use volume_edits::{Edit, Plan};
+use volume_edits::{Edit, Plan, WholeVolume};
 use volume_spec::bytes_in_range;
 use volume_spec::edit_laws::effects_are_edits;
 use volume_spec::laws::forks_are_given_bytes;
+use volume_tree::PlanFault;
 
 /// A moment is a date. The call does nothing.
 fn date_in_range(now: Moment)
@@ -33,100 +33,82 @@ fn date_in_range(now: Moment)
 fn plan_of_write(
     alloc: Global,
     now: Moment,
-    id: NodeId,
-    resource: bool,
+    fork: &ForkKey,
     write: ForkWrite,
-) -> Result<Plan, OutOfMemory>
-    ensures { IfOk result (λ plan. plan ≡ plan_of_write now id.0 resource write) }
+) -> Result<Plan, PlanFault>
+    ensures { IsPlannedWrite now fork.now.node fork.now.resource write result }
 {
     let mut edits = Vec::new(alloc);
-    edits.push(Edit::writes(now, id, resource, write))?;
-    Ok(Plan::new(now, edits))
+    match edits.push(Edit::writes(now, fork.node, fork.resource, write)) {
+        Ok(()) => Ok(Plan::new(now, edits)),
+        Err(_) => Err(PlanFault::Memory),
+    }
 }
 
-impl<K: Keeper> KeptVolume<K> {
-    /// Commits a write of a fork of a file.
-    fn write_out(
-        &mut self,
-        alloc: Global,
-        now: Moment,
-        id: NodeId,
-        resource: bool,
-        write: ForkWrite,
-    ) -> Result<(), ChangeFault>
-        requires { IsWriteOf self.old.state id.0 resource write }
-        ensures { IsCarriedOut self.old (fork_effect now id.0 resource write.after true self.old.state) result self.new }
-    {
-        effects_are_edits();
-        date_in_range(now);
-        let Ok(plan) = plan_of_write(alloc, now, id, resource, write) else {
-            return Err(ChangeFault::Memory);
-        };
-        self.carry_out(alloc, plan)
+/// The plan that gives a file's fork a piece from `start` on, a byte from the fork's start, or why there is none. A gap before the piece is filled with
+/// zeros, and a piece of no bytes has a plan of no edits. It is refused as DiskFull where the bytes of all forks would pass the total.
+pub fn plan_fork_write(
+    alloc: Global,
+    whole: &WholeVolume,
+    now: Moment,
+    fork: &ForkKey,
+    start: u64,
+    piece: &[u8],
+) -> Result<Plan, PlanFault>
+    requires { has_file whole.now.state.rows fork.now.node ≡ true }
+    ensures may { IfOk result (MayCommit whole.now.state) }
+    ensures plan { (file : Row) → row_at whole.now.state.rows fork.now.node ≡ Some file
+        → PlansBytes whole.now.state now fork.now.node fork.now.resource (nat_lt 0 (length piece.now)) (fork_of fork.now.resource file) (splice (fork_of fork.now.resource file) start piece.now) result }
+{
+    forks_are_given_bytes();
+    splice_puts_between();
+    effects_are_edits();
+    date_in_range(now);
+    whole.keeps_sound();
+    if piece.is_empty() {
+        return Ok(Plan::new(now, Vec::new(alloc)));
     }
+    let bytes = fork_in(whole, fork.node, fork.resource);
+    let end = start.saturating_add(piece.len() as u64);
+    if whole.would_pass(bytes.len(), bytes.len().max(end)) {
+        return Err(PlanFault::Code(Code::DiskFull));
+    }
+    let Ok(plan) = bytes.plan_write(alloc, start, piece) else {
+        return Err(PlanFault::Memory);
+    };
+    bytes_in_range(piece);
+    let write = ForkWrite::of(bytes, plan);
+    plan_of_write(alloc, now, fork, write)
+}
 
-    /// Gives a file's fork a piece from `start` on, a byte from the fork's start: the change is committed to the keeper, then the volume changes.
-    /// A gap before the piece is filled with zeros, and a piece of no bytes changes nothing. It is refused as DiskFull where the bytes of all forks
-    /// would pass the total.
-    pub fn write_fork(
-        &mut self,
-        alloc: Global,
-        now: Moment,
-        id: NodeId,
-        resource: bool,
-        start: u64,
-        piece: &[u8],
-    ) -> Result<(), ChangeFault>
-        requires { has_file self.old.state.rows id.0 ≡ true }
-        ensures { (file : Row) → row_at self.old.state.rows id.0 ≡ Some file
-            → GivesBytes self.old now id.0 resource (nat_lt 0 (length piece.now)) (fork_of resource file) (splice (fork_of resource file) start piece.now) result self.new }
-    {
-        forks_are_given_bytes();
-        splice_puts_between();
-        self.whole.keeps_sound();
-        if piece.is_empty() {
-            return Ok(());
-        }
-        let fork = fork_in(&self.whole, id, resource);
-        let end = start.saturating_add(piece.len() as u64);
-        if self.whole.would_pass(fork.len(), fork.len().max(end)) {
-            return Err(ChangeFault::Refused(Code::DiskFull));
-        }
-        let Ok(plan) = fork.plan_write(alloc, start, piece) else {
-            return Err(ChangeFault::Memory);
-        };
-        let write = ForkWrite::of(fork, plan);
-        bytes_in_range(piece);
-        self.write_out(alloc, now, id, resource, write)
+/// The plan that gives a file's fork another length, or why there is none. Bytes behind the length go, and new ones are zeros; the same length has a
+/// plan of no edits. It is refused as DiskFull where the bytes of all forks would pass the total.
+pub fn plan_fork_length(
+    alloc: Global,
+    whole: &WholeVolume,
+    now: Moment,
+    fork: &ForkKey,
+    len: u64,
+) -> Result<Plan, PlanFault>
+    requires { has_file whole.now.state.rows fork.now.node ≡ true }
+    ensures may { IfOk result (MayCommit whole.now.state) }
+    ensures plan { (file : Row) → row_at whole.now.state.rows fork.now.node ≡ Some file
+        → PlansBytes whole.now.state now fork.now.node fork.now.resource (not (len == length (fork_of fork.now.resource file))) (fork_of fork.now.resource file) (resized (fork_of fork.now.resource file) len) result }
+{
+    forks_are_given_bytes();
+    effects_are_edits();
+    date_in_range(now);
+    whole.keeps_sound();
+    let bytes = fork_in(whole, fork.node, fork.resource);
+    if len == bytes.len() {
+        return Ok(Plan::new(now, Vec::new(alloc)));
     }
-
-    /// Gives a file's fork another length: the change is committed to the keeper, then the volume changes. Bytes behind the length go, and new ones
-    /// are zeros; the same length changes nothing. It is refused as DiskFull where the bytes of all forks would pass the total.
-    pub fn set_fork_length(
-        &mut self,
-        alloc: Global,
-        now: Moment,
-        id: NodeId,
-        resource: bool,
-        len: u64,
-    ) -> Result<(), ChangeFault>
-        requires { has_file self.old.state.rows id.0 ≡ true }
-        ensures { (file : Row) → row_at self.old.state.rows id.0 ≡ Some file
-            → GivesBytes self.old now id.0 resource (not (len == length (fork_of resource file))) (fork_of resource file) (resized (fork_of resource file) len) result self.new }
-    {
-        forks_are_given_bytes();
-        self.whole.keeps_sound();
-        let fork = fork_in(&self.whole, id, resource);
-        if len == fork.len() {
-            return Ok(());
-        }
-        if self.whole.would_pass(fork.len(), len) {
-            return Err(ChangeFault::Refused(Code::DiskFull));
-        }
-        let Ok(plan) = fork.plan_set_length(alloc, len) else {
-            return Err(ChangeFault::Memory);
-        };
-        let write = ForkWrite::of(fork, plan);
-        self.write_out(alloc, now, id, resource, write)
+    if whole.would_pass(bytes.len(), len) {
+        return Err(PlanFault::Code(Code::DiskFull));
     }
+    let Ok(plan) = bytes.plan_set_length(alloc, len) else {
+        return Err(PlanFault::Memory);
+    };
+    let write = ForkWrite::of(bytes, plan);
+    plan_of_write(alloc, now, fork, write)
 }

@@ -2,7 +2,6 @@ use Rattle.std.proofs.Common.{◌≡◌, ap, subst, sym}
 use Rattle.afp_serial.specs.OnVolume.{opened_on}
 use Rattle.volume_edits.specs.plans.Requests.{tree_call}
 use Rattle.volume_tree.specs.Shown.{opened}
-use Rattle.afp_core_calls.specs.lemma.TreeChanges.{planned_unless}
 use Rattle.afp_core_state.specs.KeptWorld.{KeptWorld}
 use Rattle.afp_core_state.specs.lemma.KeptWorld.{forks_in}
 use Rattle.afp_core_state.specs.OnVolumes.{IsOpen}

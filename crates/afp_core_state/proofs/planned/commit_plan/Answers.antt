@@ -9,23 +9,11 @@ use Rattle.afp_core_state.specs.Running.{done}
 use Rattle.afp_core_state.proofs.PlannedRows.{commit-becomes, may-commit}
 use Rattle.afp_core_state.proofs.planned.commit_plan.Goals as goal
 
-pub commit-requires-clause-may : goal.commit-requires-clause-may
-commit-requires-clause-may g c =
+pub commit-requires : goal.commit-requires
+commit-requires g c =
     let a = c.state.inside in
-    let w : World = world_of (with_token_key a.house a.sessions.token_key) a.latest a.drain a.sessions.next_link a.sessions.sessions a.forks [] in
-    (may-commit w a.kept.items c.args.index c.index_mut.result.now c.args.state.now c.args.plan c.state.view_is c.requires.within c.index_mut.ensures.value c.requires.may).may
-
-pub commit-requires-clause-before : goal.commit-requires-clause-before
-commit-requires-clause-before g c =
-    let a = c.state.inside in
-    let w : World = world_of (with_token_key a.house a.sessions.token_key) a.latest a.drain a.sessions.next_link a.sessions.sessions a.forks [] in
-    (may-commit w a.kept.items c.args.index c.index_mut.result.now c.args.state.now c.args.plan c.state.view_is c.requires.within c.index_mut.ensures.value c.requires.may).before
-
-pub commit-requires-clause-typed : goal.commit-requires-clause-typed
-commit-requires-clause-typed g c =
-    let a = c.state.inside in
-    let w : World = world_of (with_token_key a.house a.sessions.token_key) a.latest a.drain a.sessions.next_link a.sessions.sessions a.forks [] in
-    (may-commit w a.kept.items c.args.index c.index_mut.result.now c.args.state.now c.args.plan c.state.view_is c.requires.within c.index_mut.ensures.value c.requires.may).typed
+    may-commit (world_of (with_token_key a.house a.sessions.token_key) a.latest a.drain a.sessions.next_link a.sessions.sessions a.forks []) a.kept.items c.args.index c.index_mut.result.now c.args.state.now c.args.plan c.state.view_is c.requires.within
+    c.index_mut.ensures.value c.requires.may
 
 pub returns-in-Ok : goal.returns-in-Ok
 returns-in-Ok g c =

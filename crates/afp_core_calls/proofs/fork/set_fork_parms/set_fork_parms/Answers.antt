@@ -1,4 +1,4 @@
-use Rattle.std.proofs.Common.{◌≡◌, ◌∙◌, ◌==◌, Bool, None, Some, ap, rules, sym, subst, length, not, true, false}
+use Rattle.std.proofs.Common.{◌≡◌, ◌∙◌, ◌==◌, Bool, None, Some, ap, refl, rules, sym, subst, length, not, true, false}
 use Rattle.afp_base.specs.ForkBytes.{resized}
 use Rattle.volume_spec.specs.SetForkParms.{length_in}
 use Rattle.volume_spec.specs.ForkEffect.{fork_of}
@@ -6,15 +6,13 @@ use Rattle.afp_serial.specs.Fork.{is_locked_between}
 use Rattle.afp_serial.specs.World.{OpenFork as Opened}
 use Rattle.volume_spec.specs.VolumeState.{Row, VolumeState}
 use Rattle.volume_spec.specs.Walk.{row_at}
-use Rattle.afp_core_state.specs.OnVolumes.{BecomesKept}
 use Rattle.std.specs.Prelude.{slice_get}
-use Rattle.volume_keeper.specs.kept.ForkChanging.{GivesBytes}
-use Rattle.volume_keeper.specs.kept.Kept.{KeptState}
 use Rattle.afp_core_state.specs.OnForks.{IsFork}
 use Rattle.afp_core_calls.specs.fork.lemma.SettingLength.{length_refusal}
 use Rattle.afp_core_state.specs.declared.on_fork.OwnFork.{OwnFork}
 use Rattle.afp_core_calls.proofs.OfFork.ForkCallRows.{set-denied, set-locked, set-no_length, set-runs, set_fork_parms-row}
-use Rattle.afp_core_calls.proofs.OfFork.OnForkLemmas.{fork-refused, fork-unopened, own-becomes}
+use Rattle.afp_core_calls.proofs.OfFork.OnForkLemmas.{fork-refused, fork-unopened, own-plans}
+use Rattle.afp_core_state.proofs.PlannedRows.{commits-at}
 use Rattle.afp_core_calls.proofs.fork.set_fork_parms.set_fork_parms.Goals as goal
 
 pub returns-in_default : goal.returns-in_default
@@ -55,13 +53,18 @@ returns g c =
     let k = c.args.state.now in
     let own = c.in-Some.own in
     let here = c.in-Some.ensures in
-    let answer = c.set_length_at-answer in
+    let len = c.in-Ok.len in
+    let bytes = fork_of own.fork.resource here.file.file in
+    let answer = c.plan_fork_length-answer.result in
+    let v = c.whole_at-whole.result.now.state in
     let writes : c.in-Some.own.mode.write ≡ true = search rules in
-    set-runs k c.args.session.0 c.args.reference own here c.args.bits c.args.tail.now c.in-Ok.len (subst (λ (r : Bool). length_refusal r c.args.bits c.args.tail.now ≡ None) is c.in-Ok.ensures.ok.0) (subst (λ (r : Bool). c.in-Ok.len ≡ length_in r c.args.bits c.args.tail.now) is c.in-Ok.ensures.ok.1) writes c.resizing_keeps_the_front.ensures.length
-    (sym (locked here.file.volume here.file.file here.file.fork here.volume here.node here.reference_is) ∙ c.if-is_locked_between.false) _ answer.result _ _
-    (own-becomes k _ c.args.session.0 c.args.reference.0 own here (λ (file : Row) (old one : KeptState). GivesBytes old k.world.latest own.fork.node own.fork.resource (not (c.in-Ok.len == length (fork_of own.fork.resource file)))
-    (fork_of own.fork.resource file) (resized (fork_of own.fork.resource file) c.in-Ok.len) answer.result one)
-    (subst (λ (x : OwnFork). BecomesKept k x.index (λ (old one : KeptState). (file : Row) → row_at old.state.rows x.fork.node ≡ Some file
-    → GivesBytes old k.world.latest x.fork.node x.fork.resource (not (c.in-Ok.len == length (fork_of x.fork.resource file))) (fork_of x.fork.resource file) (resized (fork_of x.fork.resource file) c.in-Ok.len) answer.result one) answer.new.state)
-    c.own.view_is answer.ensures))
-    c.new.ensures c.told_changed.ensures
+    set-runs k c.args.session.0 c.args.reference own here c.args.bits c.args.tail.now len (subst (λ (r : Bool). length_refusal r c.args.bits c.args.tail.now ≡ None) is c.in-Ok.ensures.ok.0) (subst (λ (r : Bool). len ≡ length_in r c.args.bits c.args.tail.now) is c.in-Ok.ensures.ok.1) writes c.resizing_keeps_the_front.ensures.length
+    (sym (locked here.file.volume here.file.file here.file.fork here.volume here.node here.reference_is) ∙ c.if-is_locked_between.false) _ answer _ _
+    (own-plans k c.args.session.0 c.args.reference.0 own here v c.latest.result (λ l. not (len == length l)) (λ l. resized l len) bytes answer (subst (λ (x : OwnFork). slice_get k.world.volumes x.index ≡ Some v) c.own.view_is c.whole_at-whole.ensures) c.latest.ensures refl c.plan_fork_length-answer.ensures.plan)
+    c.new-nothing.ensures c.run_plan.ensures
+
+pub run_plan-requires-clause-may : goal.run_plan-requires-clause-may
+run_plan-requires-clause-may g c =
+    let k = c.args.state.now in
+    let v = c.whole_at-whole.result.now.state in
+    commits-at k c.in-Some.own.index v c.plan_fork_length-answer.result (subst (λ (x : OwnFork). slice_get k.world.volumes x.index ≡ Some v) c.own.view_is c.whole_at-whole.ensures) c.plan_fork_length-answer.ensures.may
