@@ -87,6 +87,12 @@ OTHER_CODES = {"Ok": "the call has its effect", "MiscErr": "a keeper failed", "N
 # lemma that a definition cites is a fault, and so is one of these that none cites any more.
 LEMMAS_CITED = {
     ("capture_log_server", "lemma.Moves", "Extends"),
+    ("afp_server", "link.lemma.Serving", "Start"),
+    ("afp_server", "link.lemma.Serving", "Point"),
+    ("afp_server", "link.lemma.Serving", "point"),
+    ("afp_server", "link.lemma.Serving", "SoFar"),
+    ("afp_server", "link.lemma.Serving", "Ended"),
+    ("afp_server", "link.lemma.SessionState", "LeavesBy"),
 }
 
 # A word that fewer calls than this use stands on the pages of those calls; the others stand in the appendix.
