@@ -58,20 +58,15 @@ def codes(book, call):
 
 def words(book):
     """Words that are cited and not there, and lemmas that a definition cites."""
-    lemmas = set()
     for definition in book.library.definitions():
         for word in definition.cited:
             if isinstance(word, Missing):
                 yield f"{definition.place}: {definition.name} cites {word.name}, which {word.module} has not"
             elif isinstance(word, Definition) and word.is_lemma and not definition.is_lemma:
-                lemmas.add(word.key)
-                if word.key not in plan.LEMMAS_CITED:
-                    yield f"{definition.place}: {definition.name} cites the lemma word {word.name} ({word.place})"
+                yield f"{definition.place}: {definition.name} cites the lemma word {word.name} ({word.place})"
         if not definition.is_lemma:
             for name in definition.unbound:
                 yield f"{definition.place}: {definition.name} cites {name}, which neither it nor an import names"
-    for crate, module, name in sorted(plan.LEMMAS_CITED - lemmas):
-        yield f"tools/bookparts/plan.py: LEMMAS_CITED names {name} of {crate} {module}, which no definition cites"
     for file in book.library.files.values():
         for module, name in file.imports.values():
             if isinstance(file.library.word(module, name), Missing):

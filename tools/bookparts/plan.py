@@ -37,7 +37,8 @@ LAWS = [
       ("afp_replies", "Fitting"), ("afp_replies", "Requested"), ("dsi_session", "OptionLaws")]),
     ("laws-links", "Laws of links", "What one link comes to: its frames, what it asks and writes, and why it ends; and the links of a door.",
      [("afp_server", f"link.{name}") for name in ("Script", "OpenSession", "Calls", "GetStatus", "CloseSession", "Did", "Trace", "LinkRun", "Requests",
-                                                  "Written", "Passing", "Tally", "Wire", "Complete")] + [("afp_server", "doors.Served")]),
+                                                  "Written", "Passing", "Progress", "Tally", "Wire", "Complete")]
+     + [("afp_server", f"connection.{name}") for name in ("Turn", "Standing", "Connection", "Whole")] + [("afp_server", "doors.Served")]),
     ("laws-once", "Laws of breaks", "Each command of a client has its effect once, in order, however often its link breaks.",
      [("once_across_breaks", f"once.{name}") for name in ("Messages", "Server", "Run", "Once", "Frames", "UnderWay", "Fits", "Bytes", "Dsi", "Serial",
                                                           "Effects", "Tokens", "Premises", "Laws")]
@@ -49,6 +50,13 @@ LAWS = [
      + [("volume_keeper_records", "Laws"), ("volume_changes", "records.Laws"), ("volume_keeper", "loading.Loading")]
      + [("volume_keeper", f"kept.{name}") for name in ("Kept", "Commits", "Changing", "ForkChanging", "Loading", "LineLaws")]
      + [("sqlite_durable", name) for name in ("Table", "Kept", "Durable", "Turned")]),
+    ("laws-stops", "Laws of stops", "What a stop at any instant leaves of a volume in a file: the volume at the end of the history, or at one call that was told MiscErr. No code is tied to it yet.",
+     [("stop_places", name) for name in ("Stops", "LoadedFrom", "Laws")]),
+    ("laws-client", "Laws of the client", "What a client writes and reads on its links, one after the other, when it dials, and how its calls end.",
+     [("afp_client", f"session.{name}") for name in ("State", "Opening", "Happens", "Takes", "Run", "Laws", "TokenLaws")]
+     + [("afp_client", f"links.{name}") for name in ("Links", "OnLink", "Coming", "Ends", "History", "Talk", "Laws")]),
+    ("laws-mirror", "Laws of a mirror", "A volume copied into an empty one of another server: which call is asked next, what follows its answer, and when two volumes are alike.",
+     [("afp_mirror_walk", name) for name in ("Standing", "Asks", "Follows", "Table", "Alike", "Ports", "Steps")]),
     ("laws-desk", "Laws of the desk", "Threads that ask one core in turn share one history; what passes show, and what a closing tells.",
      [("afp_desk", f"desk.{name}") for name in ("Rule", "Totals", "Calls", "Plays", "Passes", "StandsFor")]
      + [("afp_desk", f"workers.{name}") for name in ("Workers", "Staffs", "Gathers", "Doors", "Keeping", "House")]),
@@ -82,18 +90,6 @@ EXCEPTIONS = {
 }
 # Codes that captures tell and that no row has, and why.
 OTHER_CODES = {"Ok": "the call has its effect", "MiscErr": "a keeper failed", "NoMemory": "there was no memory"}
-
-# Words that stand among the lemmas though a definition cites them, by crate, module and name. They belong beside the definitions that cite them; any other
-# lemma that a definition cites is a fault, and so is one of these that none cites any more.
-LEMMAS_CITED = {
-    ("capture_log_server", "lemma.Moves", "Extends"),
-    ("afp_server", "link.lemma.Serving", "Start"),
-    ("afp_server", "link.lemma.Serving", "Point"),
-    ("afp_server", "link.lemma.Serving", "point"),
-    ("afp_server", "link.lemma.Serving", "SoFar"),
-    ("afp_server", "link.lemma.Serving", "Ended"),
-    ("afp_server", "link.lemma.SessionState", "LeavesBy"),
-}
 
 # A word that fewer calls than this use stands on the pages of those calls; the others stand in the appendix.
 SHARED_FROM = 3

@@ -6,6 +6,7 @@ pub mod GetStatus
 pub mod LinkRun
 pub mod OpenSession
 pub mod Passing
+pub mod Progress
 pub mod Requests
 pub mod Script
 pub mod Trace

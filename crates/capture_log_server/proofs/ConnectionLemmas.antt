@@ -21,8 +21,8 @@ use Rattle.afp_server.specs.link.Wire.{WireState, open_link}
 use Rattle.afp_server.specs.declared.link.stage.Stage.{Stage}
 use Rattle.afp_server.specs.declared.link.tally.Tally.{Tally}
 use Rattle.afp_server.proofs.OfLink.Traces.{spelling_of-append}
-use Rattle.capture_log_server.specs.Connections.{Connection, fed_with, difference, output}
-use Rattle.capture_log_server.specs.lemma.Moves.{Extends, FeedsConnection, IdlesConnection, LosesConnection, Compares, wire_or}
+use Rattle.capture_log_server.specs.Connections.{Connection, fed_with, difference, output, Extends}
+use Rattle.capture_log_server.specs.lemma.Moves.{FeedsConnection, IdlesConnection, LosesConnection, Compares, wire_or}
 use Rattle.capture_log_server.specs.CaptureState.{after_quiet, after_loss}
 use Rattle.capture_log_server.specs.Sole.{IsSole}
 use Rattle.capture_log_server.specs.States.{ConnectionState, IsConnection, IsLive, IsWire}

@@ -11,7 +11,7 @@ use Rattle.afp_serial.specs.World.{World, fresh_world}
 use Rattle.afp_serial.specs.StatusBlock.{status_block}
 use Rattle.afp_serial.specs.Went.{Step, step}
 use Rattle.afp_serial.specs.declared.ask.Entry.{Entry}
-use Rattle.capture_log_server.specs.Connections.{Connection, fed_with, output, entries_of, AreServed}
+use Rattle.capture_log_server.specs.Connections.{Connection, fed_with, output, entries_of, AreServed, Extends}
 use Rattle.afp_base.specs.Counts.{counted, last_count}
 use Rattle.afp_serial.specs.Household.{Household}
 use Rattle.afp_server.specs.link.Tally.{replies_after, refused_after, refused_more}
@@ -23,7 +23,7 @@ use Rattle.afp_serial.specs.declared.ask.Ask.TheVariants as asks
 use Rattle.afp_server.specs.link.Wire.{open_link}
 use Rattle.capture_log_server.specs.declared.difference.Difference.{Difference}
 use Rattle.capture_log_server.specs.Counting.{refused_in}
-use Rattle.capture_log_server.specs.lemma.Moves.{Extends, FeedsConnection, IdlesConnection, LosesConnection}
+use Rattle.capture_log_server.specs.lemma.Moves.{FeedsConnection, IdlesConnection, LosesConnection}
 use Rattle.capture_log_server.specs.Running.{Happened}
 use Rattle.capture_log_server.specs.Running.{HappensBy}
 use Rattle.capture_log_server.specs.lemma.Slots.{IsFit, FeedsAt, IdlesAt, LosesAt, ComparesAt}

@@ -1,6 +1,7 @@
 -- What a connection of a capture reads, and what is answered (this profile).
 use Rattle.std.specs.Prelude.{◌≡◌, ◌⊎◌, ℕ, ◌+◌, ◌==◌, Bool, true, false, List, [], ◌∷◌, ◌++◌, map, All, Option, Some, None, if◌then◌else◌}
-use Rattle.afp_serial.specs.History.{answers, entry}
+use Rattle.afp_serial.specs.History.{answers, entry, stand}
+use Rattle.afp_serial.specs.Shown.{Shown}
 use Rattle.afp_serial.specs.Went.{Step}
 use Rattle.afp_serial.specs.World.{World}
 use Rattle.afp_serial.specs.declared.ask.Entry.{Entry}
@@ -84,3 +85,9 @@ abbrev pub difference : ℕ → List ℕ → List ℕ → Option Difference
 difference at [] rest = None
 difference at (want ∷ wanted) [] = Some (record { at = at; want = want; got = None })
 difference at (want ∷ wanted) (got ∷ rest) = if want == got then difference (at + 1) wanted rest else Some (record { at = at; want = want; got = Some got })
+
+-- The teller answered these steps, and nobody else asked.
+pub record Extends (t : Shown) (steps : List Step) (u : Shown) : Type 0 where
+  pub start : u.start ≡ t.start
+  pub history : u.history ≡ t.history ++ entries_of steps
+  pub served : AreServed (stand t.start (t.history)) steps

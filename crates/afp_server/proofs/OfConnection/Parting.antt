@@ -9,7 +9,7 @@ use Rattle.dsi_frame.specs.Buffered.{Buffered}
 use Rattle.afp_server.specs.link.LinkRun.{Parts}
 use Rattle.afp_server.specs.link.Requests.{Requests}
 use Rattle.afp_server.specs.link.Trace.{standing, steps_in}
-use Rattle.afp_server.specs.link.lemma.Serving.{Start, point}
+use Rattle.afp_server.specs.link.Progress.{Start, point}
 use Rattle.afp_server.specs.connection.Turn.{shown_to}
 use Rattle.afp_server.specs.connection.Standing.{StandsBy}
 use Rattle.afp_server.specs.connection.Connection.{WasServed}

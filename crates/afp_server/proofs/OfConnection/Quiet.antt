@@ -12,8 +12,9 @@ use Rattle.afp_serial.specs.declared.ask.Ask.TheVariants as asks
 use Rattle.dsi_frame.specs.Buffered.{Buffered, buffer_length}
 use Rattle.dsi_frame.specs.Replies.{listed, spelling_of}
 use Rattle.afp_server.specs.link.Requests.{Requests, is_over, request_at, requests_after}
-use Rattle.afp_server.specs.link.lemma.Serving.{Start, point, SoFar, Ended, IdlesLink, IdlesOpen}
-use Rattle.afp_server.specs.link.lemma.SessionState.{SessionState, AsksPulse, LeavesBy}
+use Rattle.afp_server.specs.link.lemma.Serving.{IdlesLink, IdlesOpen}
+use Rattle.afp_server.specs.link.Progress.{Start, point, SoFar, Ended, LeavesBy}
+use Rattle.afp_server.specs.link.lemma.SessionState.{SessionState, AsksPulse}
 use Rattle.afp_server.specs.connection.Turn.{shown_to, InTurn}
 use Rattle.afp_server.specs.connection.Standing.{ServesThen, IsUnderWay}
 use Rattle.afp_server.specs.connection.lemma.Begun.{Begins}

@@ -5,7 +5,7 @@ use Rattle.afp_outside.specs.ends.Link.{LinkState, FailsToWrite}
 use Rattle.afp_outside.specs.ends.Whole.{SendsPart}
 use Rattle.afp_outside.proofs.OfEnds.Whole.{sends-none, sends-failed}
 use Rattle.dsi_frame.specs.Buffered.{Buffered, buffer_length}
-use Rattle.afp_server.specs.link.lemma.Serving.{point}
+use Rattle.afp_server.specs.link.Progress.{point}
 use Rattle.afp_server.specs.connection.Standing.{StandsBy, RestsAt}
 use Rattle.afp_server.specs.connection.lemma.Kept.{Keeps}
 use Rattle.afp_base.specs.declared.ids.LinkNumber.{LinkNumber}

@@ -16,8 +16,9 @@ use Rattle.afp_server.specs.link.Requests.{Requests}
 use Rattle.afp_server.specs.link.Trace.{steps_in}
 use Rattle.afp_server.specs.link.lemma.Passing.{call_link}
 use Rattle.afp_server.specs.link.lemma.Requesting.{after_bytes}
-use Rattle.afp_server.specs.link.lemma.Serving.{Start, Point, point, SoFar, Ended, ServesFrame, end_of_frame}
-use Rattle.afp_server.specs.link.lemma.SessionState.{SessionState, Acts, LeavesBy}
+use Rattle.afp_server.specs.link.lemma.Serving.{ServesFrame, end_of_frame}
+use Rattle.afp_server.specs.link.Progress.{Start, Point, point, SoFar, Ended, LeavesBy}
+use Rattle.afp_server.specs.link.lemma.SessionState.{SessionState, Acts}
 use Rattle.afp_server.specs.connection.Turn.{shown_to, InTurn, OneLinksTurn}
 use Rattle.afp_server.specs.connection.Standing.{ServesThen, IsUnderWay, StandsBy, OthersLeave}
 use Rattle.afp_server.specs.connection.lemma.Begun.{LeavesSome, GoesBehind, then_of}

@@ -17,7 +17,8 @@ use Rattle.afp_server.specs.link.Passing.{calls_in}
 use Rattle.afp_server.specs.link.lemma.Passing.{call_link}
 use Rattle.dsi_frame.specs.Replies.{listed, spelling_of}
 use Rattle.afp_server.specs.link.Script.{Does}
-use Rattle.afp_server.specs.link.lemma.Serving.{Start, point, SoFar, Ended, end_of_frame}
+use Rattle.afp_server.specs.link.lemma.Serving.{end_of_frame}
+use Rattle.afp_server.specs.link.Progress.{Start, point, SoFar, Ended}
 use Rattle.afp_server.specs.link.lemma.SessionState.{SessionState, Acts}
 use Rattle.afp_server.specs.declared.link.serve.LinkEnd.{LinkEnd}
 use Rattle.afp_server.specs.declared.link.serve.LinkEnd.TheVariants as links

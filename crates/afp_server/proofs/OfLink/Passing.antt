@@ -12,8 +12,8 @@ use Rattle.dsi_frame.specs.declared.frame.DsiCommand.TheVariants.{CloseSession, 
 use Rattle.afp_server.specs.link.Did.{Did}
 use Rattle.afp_server.specs.link.LinkRun.{Parts}
 use Rattle.afp_server.specs.link.OpenSession.{OpensSession}
-use Rattle.afp_server.specs.link.Passing.{called_on, calls_in, GoThrough}
-use Rattle.afp_server.specs.link.lemma.Passing.{all_passed, call_link}
+use Rattle.afp_server.specs.link.Passing.{called_on, calls_in, GoThrough, all_passed}
+use Rattle.afp_server.specs.link.lemma.Passing.{call_link}
 use Rattle.afp_server.specs.link.Script.{FreshDoes, OpenDoes, ReplyDoes, FrameDoes, Does}
 use Rattle.afp_server.specs.link.Requests.{Requests}
 use Rattle.afp_server.specs.link.Trace.{Cause, closed, displaced, bad, silent, drained, unwritten, Idled, IdlesOn, Idles}

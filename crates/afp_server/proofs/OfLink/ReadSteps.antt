@@ -12,10 +12,11 @@ use Rattle.dsi_frame.specs.Buffered.{Buffered, buffer_length}
 use Rattle.dsi_frame.specs.Frame.{Frame}
 use Rattle.dsi_frame.specs.Stream.{IsUnfinished, Framed}
 use Rattle.afp_server.specs.link.LinkRun.{Moves, Fills, MayRead, EachMayRead, EndsBy, failed_writes, Continues, IsAnswered, StaysAt, bytes_read, cost_of, size_of, written_before, read_limit}
-use Rattle.afp_server.specs.link.lemma.Passing.{all_passed}
+use Rattle.afp_server.specs.link.Passing.{all_passed}
 use Rattle.dsi_frame.specs.Replies.{listed, spelling_of}
 use Rattle.afp_server.specs.link.Requests.{Requests}
-use Rattle.afp_server.specs.link.lemma.Serving.{Start, Point, point, SoFar, Ended, IdlesLink}
+use Rattle.afp_server.specs.link.lemma.Serving.{IdlesLink}
+use Rattle.afp_server.specs.link.Progress.{Start, Point, point, SoFar, Ended}
 use Rattle.afp_server.specs.link.Trace.{Happening, received, was_quiet, events_in, frames_in, sent_in, steps_in, standing, begun, Cause, displaced, silent, drained, unwritten, Idled, Idles, Follows}
 use Rattle.afp_server.specs.declared.link.serve.LinkEnd.{LinkEnd}
 use Rattle.afp_server.specs.declared.link.serve.LinkEnd.TheVariants as links

@@ -16,11 +16,11 @@ use Rattle.dsi_frame.specs.declared.frame.BadFrame.{BadFrame}
 use Rattle.afp_server.specs.link.Did.{Did}
 use Rattle.afp_server.specs.link.Requests.{Requests, no_requests, after_reply}
 use Rattle.afp_server.specs.link.LinkRun.{Moves, Fills, EachMayRead, EndsBy, failed_writes, IsAnswered, bytes_read, cost_of, carries_call}
-use Rattle.afp_server.specs.link.Passing.{calls_in, GoThrough}
-use Rattle.afp_server.specs.link.lemma.Passing.{all_passed}
+use Rattle.afp_server.specs.link.Passing.{calls_in, GoThrough, all_passed}
 use Rattle.dsi_frame.specs.Replies.{listed, spelling_of}
 use Rattle.afp_server.specs.link.Script.{Does}
-use Rattle.afp_server.specs.link.lemma.Serving.{Start, Point, point, SoFar, Ended, end_of_frame}
+use Rattle.afp_server.specs.link.lemma.Serving.{end_of_frame}
+use Rattle.afp_server.specs.link.Progress.{Start, Point, point, SoFar, Ended}
 use Rattle.afp_server.specs.link.Trace.{Happening, handled, events_in, frames_in, sent_in, steps_in, standing, begun, Cause, cause_of, Follows}
 use Rattle.afp_server.specs.declared.link.serve.LinkEnd.TheVariants as links
 use Rattle.afp_server.specs.declared.link.stage.FrameEnd.{FrameEnd}

@@ -10,7 +10,7 @@ use Rattle.afp_server.specs.link.LinkRun.{EachMayRead, Fills, IsServed, Moves, P
 use Rattle.afp_server.specs.link.Passing.{Passes}
 use Rattle.afp_server.specs.link.Requests.{Requests}
 use Rattle.afp_server.specs.link.Trace.{Follows, Happening, Standing as Stood, begun, events_in, frames_in, sent_in, steps_in}
-use Rattle.afp_server.specs.link.lemma.Serving.{Start, point}
+use Rattle.afp_server.specs.link.Progress.{Start, point}
 use Rattle.afp_server.specs.connection.Standing.{IsOf, StandsBy}
 use Rattle.afp_server.specs.declared.connection.connection.Rest.{Rest}
 use Rattle.afp_server.specs.declared.connection.connection.Rest.TheVariants as rests

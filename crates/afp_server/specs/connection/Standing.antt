@@ -9,8 +9,7 @@ use Rattle.afp_serial.specs.Went.{Step, Went}
 use Rattle.dsi_frame.specs.Buffered.{Buffered, buffer_length}
 use Rattle.dsi_frame.specs.Stream.{IsUnfinished}
 use Rattle.afp_server.specs.link.Requests.{Requests}
-use Rattle.afp_server.specs.link.lemma.Serving.{Start, Point, point, SoFar, Ended}
-use Rattle.afp_server.specs.link.lemma.SessionState.{LeavesBy}
+use Rattle.afp_server.specs.link.Progress.{Start, Point, point, SoFar, Ended, LeavesBy}
 use Rattle.afp_server.specs.connection.Turn.{shown_to}
 use Rattle.afp_server.specs.declared.connection.standing.Standing.{Standing}
 use Rattle.afp_server.specs.declared.connection.standing.Standing.TheVariants as stands

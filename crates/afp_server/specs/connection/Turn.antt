@@ -2,7 +2,7 @@
 use Rattle.std.specs.Prelude.{◌≡◌, ◌≢◌, ℕ, ◌==◌, if◌then◌else◌, List, [], ◌∷◌, ◌++◌, length}
 use Rattle.afp_serial.specs.Shown.{Shown, Rising}
 use Rattle.afp_serial.specs.Went.{Step, Went}
-use Rattle.afp_server.specs.link.lemma.Serving.{Start}
+use Rattle.afp_server.specs.link.Progress.{Start}
 
 -- What a teller shows to one of the links that ask it in turns: these places alone are its own. What the others ask is asked by others.
 abbrev pub shown_to : List ℕ → Shown → Shown

@@ -7,7 +7,7 @@ use Rattle.afp_serial.specs.Shown.{Shown}
 use Rattle.afp_serial.specs.StatusBlock.{status_block}
 use Rattle.afp_serial.specs.Went.{Step, Went}
 use Rattle.afp_server.specs.link.LinkRun.{Parts}
-use Rattle.afp_server.specs.link.lemma.Serving.{Start, Ended}
+use Rattle.afp_server.specs.link.Progress.{Start, Ended}
 use Rattle.afp_server.specs.doors.Served.{ServedLink}
 use Rattle.afp_server.specs.connection.Turn.{shown_to}
 use Rattle.afp_server.specs.declared.link.serve.LinkEnd.{LinkEnd}

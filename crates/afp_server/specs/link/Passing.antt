@@ -22,6 +22,10 @@ abbrev pub calls_in : List Step → List LinkNumber
 calls_in [] = []
 calls_in (s ∷ steps) = called_on s.link s.ask ++ calls_in steps
 
+-- each of these calls entered the gate, and left it
+abbrev pub all_passed : List Step → Passed
+all_passed steps = record { entered = calls_in steps; exited = calls_in steps }
+
 -- Each call that was asked entered the gate, in order, and left it; where a reply could not be written, its own may not have.
 pub record GoThrough (answer : LinkEnd) (steps : List Step) (passed : Passed) : Type 0 where
   pub entered : passed.entered ≡ calls_in steps

@@ -6,7 +6,7 @@ ghost use Rattle.afp_outside.specs.ends.Link.{LinkState};
 ghost use Rattle.afp_serial.specs.Shown.{Shown};
 ghost use Rattle.afp_serial.specs.StatusBlock.{status_block};
 ghost use Rattle.afp_server.specs.link.Requests.{Requests, no_requests};
-ghost use Rattle.afp_server.specs.link.lemma.Serving.{Start, point};
+ghost use Rattle.afp_server.specs.link.Progress.{Start, point};
 ghost use Rattle.afp_server.specs.connection.Turn.{InTurn};
 ghost use Rattle.afp_server.specs.connection.Standing.{IsLive, RestsAt, StandsBy};
 ghost use Rattle.afp_server.specs.connection.Connection.{IsParted, Stands, rest_of};

@@ -5,7 +5,7 @@ ghost use Rattle.dsi_frame.specs.Replies.{listed, spelling_of};
 ghost use Rattle.afp_outside.specs.ends.Gate.{Passed};
 ghost use Rattle.afp_outside.specs.ends.Link.{LinkState, ReadsQuiet};
 ghost use Rattle.afp_server.specs.link.Requests.{request_at, requests_after};
-ghost use Rattle.afp_server.specs.link.lemma.Serving.{point};
+ghost use Rattle.afp_server.specs.link.Progress.{point};
 ghost use Rattle.afp_server.specs.connection.Turn.{InTurn};
 ghost use Rattle.afp_server.specs.connection.Standing.{IsLive, IsLiveIn, IsOf, RestsAt, StandsBy};
 ghost use Rattle.afp_server.specs.connection.lemma.Begun.{Begins as BeginsAt, Puts};

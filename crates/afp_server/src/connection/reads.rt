@@ -5,7 +5,7 @@ ghost use Rattle.dsi_frame.specs.Stream.{IsUnfinished};
 ghost use Rattle.afp_outside.specs.ends.Gate.{Passed};
 ghost use Rattle.afp_serial.specs.Shown.{Shown};
 ghost use Rattle.afp_server.specs.link.Requests.{Requests};
-ghost use Rattle.afp_server.specs.link.lemma.Serving.{Start, SoFar, point};
+ghost use Rattle.afp_server.specs.link.Progress.{Start, SoFar, point};
 ghost use Rattle.afp_server.specs.connection.Turn.{InTurn};
 ghost use Rattle.afp_server.specs.connection.Standing.{IsLive, IsLiveIn, IsOf, RestsAt, StandsBy};
 ghost use Rattle.afp_server.specs.connection.lemma.Begun.{Begins as BeginsAt, StandsAt};

@@ -3,7 +3,8 @@ ghost use Rattle.std.specs.Prelude.{◌≡◌, ◌≢◌, ◌<◌, ℕ, length, 
 ghost use Rattle.afp_outside.specs.ends.Gate.{with_exited};
 ghost use Rattle.dsi_frame.specs.Frame.{Frame, header_of};
 ghost use Rattle.dsi_frame.specs.Stream.{Begins};
-ghost use Rattle.afp_server.specs.link.lemma.Serving.{Start, SoFar, ServesFrame, ServesFrames, point, end_of_frame};
+ghost use Rattle.afp_server.specs.link.lemma.Serving.{ServesFrame, ServesFrames, end_of_frame};
+ghost use Rattle.afp_server.specs.link.Progress.{Start, SoFar, point};
 
 use crate::link::requests::LinkRequests;
 use crate::link::serve::LinkEnd;

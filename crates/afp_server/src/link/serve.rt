@@ -7,7 +7,7 @@ ghost use Rattle.afp_serial.specs.Went.{Step, Went};
 ghost use Rattle.afp_server.specs.link.LinkRun.{IsRun, IsServed};
 ghost use Rattle.afp_outside.specs.ends.Gate.{none_passed};
 ghost use Rattle.afp_server.specs.link.Passing.{Passes};
-ghost use Rattle.afp_server.specs.link.lemma.Serving.{Ended};
+ghost use Rattle.afp_server.specs.link.Progress.{Ended};
 
 use crate::link::frames::serve_frames;
 use crate::link::idle::idle;

@@ -1,8 +1,7 @@
 -- What the calls on a connection do (this profile).
-use Rattle.std.specs.Prelude.{◌≡◌, ℕ, ◌+◌, Bool, List, [], ◌∷◌, ◌++◌, length, drop, Option, Some, None}
+use Rattle.std.specs.Prelude.{◌≡◌, ℕ, ◌+◌, Bool, List, [], ◌∷◌, length, drop, Option, Some, None}
 use Rattle.afp_base.specs.declared.ids.LinkNumber.{LinkNumber}
 use Rattle.afp_serial.specs.Shown.{Shown}
-use Rattle.afp_serial.specs.History.{stand}
 use Rattle.afp_serial.specs.Went.{Step, step}
 use Rattle.afp_serial.specs.declared.ask.Ask.TheVariants as asks
 use Rattle.afp_serial.specs.declared.ask.Told.{Told}
@@ -12,16 +11,10 @@ use Rattle.afp_server.specs.link.Wire.{WireState}
 use Rattle.afp_server.specs.declared.link.stage.Stage.{Stage}
 use Rattle.afp_server.specs.declared.link.stage.Stage.TheVariants.{Fresh}
 use Rattle.afp_server.specs.declared.link.tally.Tally.{Tally}
-use Rattle.capture_log_server.specs.Connections.{Connection, TakesBytes, fed_with, difference, output, entries_of, AreServed}
+use Rattle.capture_log_server.specs.Connections.{Connection, Extends, TakesBytes, fed_with, difference, output}
 use Rattle.capture_log_server.specs.declared.difference.Difference.{Difference}
 use Rattle.capture_log_server.specs.CaptureState.{after_quiet, after_loss}
 use Rattle.capture_log_server.specs.States.{ConnectionState, IsConnection}
-
--- The teller answered these steps, and nobody else asked.
-pub record Extends (t : Shown) (steps : List Step) (u : Shown) : Type 0 where
-  pub start : u.start ≡ t.start
-  pub history : u.history ≡ t.history ++ entries_of steps
-  pub served : AreServed (stand t.start (t.history)) steps
 
 -- a wire at its first byte
 abbrev pub fresh_wire : List ℕ → WireState

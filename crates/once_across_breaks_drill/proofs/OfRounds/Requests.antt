@@ -26,8 +26,7 @@ use Rattle.afp_server.specs.link.Tally.{and_told, answered_after}
 use Rattle.afp_server.specs.declared.link.stage.FrameEnd.{FrameEnd}
 use Rattle.afp_server.specs.declared.link.stage.Stage.{Stage}
 use Rattle.afp_server.specs.declared.link.stage.Stage.TheVariants.{Fresh, Open}
-use Rattle.capture_log_server.specs.Connections.{AreServed, entries_of}
-use Rattle.capture_log_server.specs.lemma.Moves.{Extends}
+use Rattle.capture_log_server.specs.Connections.{AreServed, entries_of, Extends}
 use Rattle.dsi_frame.specs.Frame.{Frame, canonical_frame}
 use Rattle.dsi_frame.specs.Replies.{listed, reply_to, spelling_of}
 use Rattle.dsi_session.specs.OptionLaws.{HasOneList, IsReadOneWay}

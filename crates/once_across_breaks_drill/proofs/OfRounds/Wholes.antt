@@ -26,7 +26,7 @@ use Rattle.afp_server.specs.declared.link.tally.Tally.{Tally}
 use Rattle.afp_server.specs.declared.link.wire.WireEnd.{WireEnd}
 use Rattle.afp_server.specs.declared.link.wire.WireEnd.TheVariants as wires
 use Rattle.afp_server.proofs.OfLink.Traces.{fills-one}
-use Rattle.capture_log_server.specs.lemma.Moves.{Extends}
+use Rattle.capture_log_server.specs.Connections.{Extends}
 use Rattle.capture_log_server.proofs.ConnectionLemmas.{one}
 use Rattle.capture_log_server.specs.Sole.{IsSole}
 use Rattle.capture_log_server.proofs.Histories.{Asks, asks}

@@ -12,7 +12,7 @@ use Rattle.afp_server.specs.link.Wire.{WireState}
 use Rattle.afp_server.specs.declared.link.stage.FrameEnd.{FrameEnd}
 use Rattle.afp_server.specs.declared.link.stage.Stage.{Stage}
 use Rattle.afp_server.specs.declared.link.stage.Stage.TheVariants.{Closing}
-use Rattle.capture_log_server.specs.lemma.Moves.{Extends}
+use Rattle.capture_log_server.specs.Connections.{Extends}
 use Rattle.dsi_frame.specs.Deframe.{GivenOut}
 use Rattle.dsi_frame.specs.Frame.{Frame}
 use Rattle.dsi_frame.specs.Replies.{listed, spelling_of}

@@ -7,7 +7,8 @@ use Rattle.afp_serial.specs.Shown.{Shown}
 use Rattle.dsi_frame.specs.Buffered.{Buffered}
 use Rattle.dsi_frame.specs.Frame.{Frame, IsSpelling}
 use Rattle.afp_server.specs.link.Requests.{Requests}
-use Rattle.afp_server.specs.link.lemma.Serving.{Start, Point, point, SoFar, end_of_frame}
+use Rattle.afp_server.specs.link.lemma.Serving.{end_of_frame}
+use Rattle.afp_server.specs.link.Progress.{Start, Point, point, SoFar}
 use Rattle.afp_server.specs.connection.Standing.{IsOf, StandsBy}
 use Rattle.afp_server.specs.declared.connection.sending.Put.{Put}
 use Rattle.afp_server.specs.declared.connection.sending.Put.TheVariants as puts

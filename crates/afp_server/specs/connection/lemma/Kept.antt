@@ -5,7 +5,7 @@ use Rattle.afp_outside.specs.ends.Link.{LinkState}
 use Rattle.afp_serial.specs.Shown.{Shown}
 use Rattle.dsi_frame.specs.Buffered.{Buffered, buffer_length}
 use Rattle.afp_server.specs.link.Requests.{Requests}
-use Rattle.afp_server.specs.link.lemma.Serving.{Start, point}
+use Rattle.afp_server.specs.link.Progress.{Start, point}
 use Rattle.afp_server.specs.connection.Standing.{IsLive, RestsAt, StandsBy}
 use Rattle.afp_server.specs.declared.connection.standing.Standing.{Standing}
 use Rattle.afp_server.specs.declared.link.stage.Stage.{Stage}

@@ -6,7 +6,8 @@ use Rattle.afp_serial.specs.Shown.{Shown}
 use Rattle.dsi_frame.specs.Replies.{listed, spelling_of}
 use Rattle.dsi_frame.specs.Stream.{IsUnfinished}
 use Rattle.afp_server.specs.link.Requests.{Requests, is_over, request_at, requests_after}
-use Rattle.afp_server.specs.link.lemma.Serving.{Start, Point, SoFar, IdlesOpen}
+use Rattle.afp_server.specs.link.lemma.Serving.{IdlesOpen}
+use Rattle.afp_server.specs.link.Progress.{Start, Point, SoFar}
 use Rattle.afp_server.specs.connection.lemma.Begun.{LeavesSome}
 use Rattle.afp_server.specs.declared.connection.standing.Standing.{Standing}
 use Rattle.afp_server.specs.declared.connection.standing.Standing.TheVariants as stands

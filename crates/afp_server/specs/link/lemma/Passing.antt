@@ -1,19 +1,13 @@
 -- What the code and the proofs go by beside Passing; no public contract cites it.
-use Rattle.std.specs.Prelude.{◌≡◌, Bool, true, false, List, Option, Some, None, Result, Ok, Err}
+use Rattle.std.specs.Prelude.{◌≡◌, Bool, true, false, Option, Some, None, Result, Ok, Err}
 use Rattle.afp_base.specs.declared.bytes.OutOfMemory.{OutOfMemory}
 use Rattle.afp_base.specs.declared.ids.LinkNumber.{LinkNumber}
 use Rattle.afp_outside.specs.ends.Gate.{Passed, with_entered}
-use Rattle.afp_serial.specs.Went.{Step}
 use Rattle.dsi_frame.specs.declared.frame.DsiCommand.{DsiCommand}
 use Rattle.afp_server.specs.link.LinkRun.{carries_call}
 use Rattle.afp_server.specs.declared.link.stage.FrameEnd.{FrameEnd}
 use Rattle.afp_server.specs.declared.link.stage.Stage.{Stage}
 use Rattle.afp_server.specs.declared.link.stage.Stage.TheVariants as stages
-use Rattle.afp_server.specs.link.Passing.{calls_in}
-
--- each of these calls entered the gate, and left it
-abbrev pub all_passed : List Step → Passed
-all_passed steps = record { entered = calls_in steps; exited = calls_in steps }
 
 abbrev pub if_call : Bool → LinkNumber → Option LinkNumber
 if_call true link = Some link

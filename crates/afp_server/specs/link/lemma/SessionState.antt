@@ -86,11 +86,6 @@ PulseTold link (tells.Live drain) old idle new = (idle ≡ idles.Live link drain
 PulseTold link tells.Done old idle new = (idle ≡ idles.Live link None) × (new ≡ old)
 PulseTold link tells.Memory old idle new = (idle ≡ idles.Live link None) × (new ≡ old)
 
--- A Bye was asked at this link, whatever it was told.
-pub record LeavesBy (now : ℕ) (link : LinkNumber) (before after : Shown) : Type 0 where
-  pub answer : Told
-  pub went : Went before (step now link asks.Bye answer ∷ []) after
-
 -- A call was replied to, or not, and the link goes on or ends, by what it was told.
 pub record CalledBy (f : Frame) (told : Told) (reply : Option Frame) (old new : SessionState) (end : Option FrameEnd) : Type 0 where
   pub called : (link : LinkNumber) → old.stage ≡ stages.Open link → CallTold f link told reply new.stage end

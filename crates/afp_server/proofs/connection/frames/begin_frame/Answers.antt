@@ -10,7 +10,8 @@ use Rattle.afp_server.specs.link.LinkRun.{carries_call}
 use Rattle.afp_server.specs.declared.link.serve.LinkEnd.{LinkEnd}
 use Rattle.afp_server.specs.declared.link.serve.LinkEnd.TheVariants as links
 use Rattle.afp_server.specs.link.lemma.Requesting.{after_bytes}
-use Rattle.afp_server.specs.link.lemma.Serving.{point, Ended, ServesFrame}
+use Rattle.afp_server.specs.link.lemma.Serving.{ServesFrame}
+use Rattle.afp_server.specs.link.Progress.{point, Ended}
 use Rattle.afp_server.specs.connection.Turn.{shown_to}
 use Rattle.afp_server.specs.connection.Standing.{IsUnderWay}
 use Rattle.afp_server.specs.declared.connection.standing.Then.{Then}

@@ -1,8 +1,8 @@
 use Rattle.std.proofs.Common.{ℕ, List, [], ◌++◌, sym, subst, ap, refl}
 use Rattle.afp_outside.specs.ends.Gate.{Passed, with_exited}
 use Rattle.afp_serial.specs.Shown.{Shown}
-use Rattle.afp_server.specs.link.lemma.Serving.{point, SoFar, Ended}
-use Rattle.afp_server.specs.link.lemma.SessionState.{SessionState, LeavesBy}
+use Rattle.afp_server.specs.link.Progress.{point, SoFar, Ended, LeavesBy}
+use Rattle.afp_server.specs.link.lemma.SessionState.{SessionState}
 use Rattle.afp_server.specs.connection.Turn.{shown_to}
 use Rattle.afp_server.specs.connection.Standing.{ServesThen}
 use Rattle.afp_server.specs.declared.connection.standing.Then.{Then}

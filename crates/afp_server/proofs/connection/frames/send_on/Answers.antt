@@ -1,7 +1,7 @@
 use Rattle.std.proofs.Common.{ℕ, List, sym, subst, refl, inl}
 use Rattle.afp_outside.specs.ends.Gate.{with_exited}
 use Rattle.afp_outside.specs.ends.Whole.{Sends, SendsPart}
-use Rattle.afp_server.specs.link.lemma.Serving.{point}
+use Rattle.afp_server.specs.link.Progress.{point}
 use Rattle.afp_server.specs.connection.Standing.{IsUnderWay}
 use Rattle.afp_server.specs.connection.lemma.Begun.{LeavesSome}
 use Rattle.afp_server.proofs.OfConnection.Turning.{left-on, in-turn-none, in-turn-from, in-turn-goes}

@@ -1,5 +1,5 @@
 use Rattle.std.proofs.Common.{refl, inl, arith}
-use Rattle.afp_server.specs.link.lemma.Serving.{point}
+use Rattle.afp_server.specs.link.Progress.{point}
 use Rattle.afp_server.specs.connection.Standing.{IsOf}
 use Rattle.afp_server.proofs.OfLink.ReadSteps.{ends-spent}
 use Rattle.afp_server.proofs.OfConnection.Turning.{in-turn-none, in-turn-from, in-turn-of}

@@ -1,6 +1,6 @@
 use Rattle.std.proofs.Common.{ℕ, List, ◌∙◌, subst}
 use Rattle.std.specs.Prelude.{Option, None, Some}
-use Rattle.afp_server.specs.link.lemma.Serving.{Start, point}
+use Rattle.afp_server.specs.link.Progress.{Start, point}
 use Rattle.afp_serial.specs.Shown.{Shown}
 use Rattle.afp_server.specs.connection.Turn.{InTurn}
 use Rattle.afp_server.specs.connection.Standing.{IsOf, StandsBy}

@@ -1,6 +1,6 @@
 use Rattle.std.proofs.Common.{ℕ, List, refl, subst, ◌∙◌}
 use Rattle.std.specs.Prelude.{Some, None}
-use Rattle.afp_server.specs.link.lemma.Serving.{point}
+use Rattle.afp_server.specs.link.Progress.{point}
 use Rattle.afp_server.specs.connection.Turn.{InTurn}
 use Rattle.afp_server.specs.connection.Standing.{IsOf}
 use Rattle.afp_server.specs.connection.lemma.Begun.{Begins, StandsAt}

@@ -1,5 +1,5 @@
 use Rattle.std.proofs.Common.{arith}
-use Rattle.afp_server.specs.link.lemma.Serving.{point}
+use Rattle.afp_server.specs.link.Progress.{point}
 use Rattle.afp_server.proofs.OfLink.ReadSteps.{so_far-gets}
 use Rattle.afp_server.proofs.connection.reads.read_some.Goals as goal
 

@@ -1,5 +1,5 @@
 use Rattle.std.proofs.Common.{refl, subst}
-use Rattle.afp_server.specs.link.lemma.Serving.{point}
+use Rattle.afp_server.specs.link.Progress.{point}
 use Rattle.afp_server.specs.connection.Standing.{StandsBy}
 use Rattle.afp_server.specs.declared.connection.standing.Standing.{Standing}
 use Rattle.afp_server.proofs.OfConnection.Turning.{in-turn-none, in-turn-from}

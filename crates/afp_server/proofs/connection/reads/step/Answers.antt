@@ -1,5 +1,5 @@
 use Rattle.std.proofs.Common.{refl, inl, arith}
-use Rattle.afp_server.specs.link.lemma.Serving.{point}
+use Rattle.afp_server.specs.link.Progress.{point}
 use Rattle.afp_server.proofs.OfLink.Serving.{ends-header}
 use Rattle.afp_server.proofs.OfConnection.Turning.{in-turn-none}
 use Rattle.afp_server.proofs.connection.reads.step.Goals as goal

@@ -7,7 +7,7 @@ use Rattle.dsi_frame.specs.declared.frame.Header.{Header}
 use Rattle.dsi_frame.proofs.FrameLemmas.{frame_of-header_of}
 use Rattle.afp_server.specs.link.LinkRun.{carries_call}
 use Rattle.afp_server.specs.link.lemma.Requesting.{after_bytes}
-use Rattle.afp_server.specs.link.lemma.Serving.{point}
+use Rattle.afp_server.specs.link.Progress.{point}
 use Rattle.afp_server.proofs.OfLink.FrameSteps.{next, frame-goes_on, frame-less, frame-ends, frame-unwritten}
 use Rattle.afp_server.proofs.OfLink.Passing.{called-is}
 use Rattle.afp_server.proofs.OfLink.Serving.{ends-uncopied}

@@ -1,5 +1,5 @@
 use Rattle.std.proofs.Common.{sym, ◌∙◌}
-use Rattle.afp_server.specs.link.lemma.Serving.{point}
+use Rattle.afp_server.specs.link.Progress.{point}
 use Rattle.afp_server.proofs.OfLink.Serving.{ends-header}
 use Rattle.afp_server.proofs.link.frames.serve_frames.Goals as goal
 

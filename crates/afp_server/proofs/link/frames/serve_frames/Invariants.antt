@@ -1,5 +1,5 @@
 use Rattle.std.proofs.Common.{◌≡◌, ◌≢◌, ℕ, length}
-use Rattle.afp_server.specs.link.lemma.Serving.{Start, SoFar, point}
+use Rattle.afp_server.specs.link.Progress.{Start, SoFar, point}
 use Rattle.afp_server.specs.declared.link.stage.Stage.TheVariants as stages
 use Rattle.afp_server.proofs.link.frames.serve_frames.Given as goal
 

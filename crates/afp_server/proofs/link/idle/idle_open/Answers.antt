@@ -1,5 +1,6 @@
 use Rattle.std.proofs.Common.{ℕ, refl, sym, ap, ◌∙◌, subst}
-use Rattle.afp_server.specs.link.lemma.SessionState.{SessionState, LeavesBy}
+use Rattle.afp_server.specs.link.lemma.SessionState.{SessionState}
+use Rattle.afp_server.specs.link.Progress.{LeavesBy}
 use Rattle.afp_server.specs.link.Requests.{is_over}
 use Rattle.afp_server.proofs.link.idle.idle_open.Goals as goal
 

@@ -3,7 +3,8 @@ use Rattle.std.specs.Prelude.{None}
 use Rattle.afp_outside.specs.ends.Gate.{Passed, none_passed}
 use Rattle.dsi_frame.specs.Buffered.{Buffered}
 use Rattle.afp_server.specs.link.Requests.{Requests, no_requests}
-use Rattle.afp_server.specs.link.lemma.Serving.{Start, Point, point, SoFar, ServesFrames}
+use Rattle.afp_server.specs.link.lemma.Serving.{ServesFrames}
+use Rattle.afp_server.specs.link.Progress.{Start, Point, point, SoFar}
 use Rattle.afp_server.specs.declared.link.serve.LinkEnd.TheVariants as links
 use Rattle.afp_server.specs.declared.link.stage.Stage.{Stage}
 use Rattle.afp_server.specs.declared.link.stage.Stage.TheVariants as stages

@@ -1,5 +1,5 @@
 use Rattle.std.proofs.Common.{◌≡◌, ◌≢◌, ◌-◌}
-use Rattle.afp_server.specs.link.lemma.Serving.{SoFar, point}
+use Rattle.afp_server.specs.link.Progress.{SoFar, point}
 use Rattle.afp_server.specs.declared.link.stage.Stage.TheVariants as stages
 use Rattle.afp_server.proofs.link.serve.serve_session.Given as goal
 

@@ -1,7 +1,7 @@
 use Rattle.std.proofs.Common.{ℕ, List, [], refl, sym, ap, ◌∙◌, subst}
 use Rattle.afp_outside.specs.ends.Gate.{Passed, none_passed}
 use Rattle.afp_server.specs.link.Requests.{Requests, no_requests}
-use Rattle.afp_server.specs.link.lemma.Serving.{Start, SoFar, point}
+use Rattle.afp_server.specs.link.Progress.{Start, SoFar, point}
 use Rattle.afp_server.specs.declared.link.stage.Stage.TheVariants as stages
 use Rattle.afp_server.proofs.OfLink.Serving.{so_far-none}
 use Rattle.afp_server.proofs.connection.connection.Connection.new.Goals as goal

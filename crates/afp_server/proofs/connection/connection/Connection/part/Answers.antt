@@ -6,7 +6,7 @@ use Rattle.afp_server.specs.link.lemma.SessionState.{SessionState}
 use Rattle.afp_server.specs.connection.Turn.{shown_to}
 use Rattle.afp_server.specs.connection.Connection.{ConnectionState, IsParted, Stands}
 use Rattle.afp_server.specs.connection.Standing.{StandsBy}
-use Rattle.afp_server.specs.link.lemma.Serving.{point}
+use Rattle.afp_server.specs.link.Progress.{point}
 use Rattle.afp_server.specs.declared.connection.standing.Standing.{Standing}
 use Rattle.afp_server.specs.declared.connection.standing.Standing.TheVariants as stands
 use Rattle.afp_server.specs.declared.link.stage.Stage.{Stage}

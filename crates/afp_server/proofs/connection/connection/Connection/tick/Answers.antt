@@ -1,7 +1,7 @@
 use Rattle.std.proofs.Common.{ℕ, List, sym, ap, ◌∙◌, subst, arith}
 use Rattle.dsi_frame.specs.Buffered.{Buffered}
 use Rattle.afp_outside.specs.ends.Gate.{Passed}
-use Rattle.afp_server.specs.link.lemma.Serving.{point}
+use Rattle.afp_server.specs.link.Progress.{point}
 use Rattle.afp_server.specs.link.lemma.SessionState.{SessionState}
 use Rattle.afp_server.specs.connection.Connection.{ConnectionState, Stands}
 use Rattle.afp_server.specs.connection.Standing.{IsLive, RestsAt, StandsBy}
