@@ -12,7 +12,7 @@ use Rattle.dsi_frame.proofs.FrameLemmas.{length-spelling, short_is_unfinished}
 use Rattle.dsi_frame.proofs.StreamLemmas.{spelled_push, given-frame, given-stop, given-feed, given-nothing}
 use Rattle.afptool_lib.specs.tool.Checking.{PrintsFramesPart, ChecksPart, TellsCheck, end_text, end_status}
 use Rattle.afptool_lib.specs.tool.lemma.Checking.{Checks, HasChecked, PrintsFrames, PrintsTo}
-use Rattle.afptool_lib.specs.tool.Telling.{Tells}
+use Rattle.afpd_lib.specs.server.Telling.{Tells}
 use Rattle.afptool_lib.specs.tool.Lines.{frame_line, frame_lines}
 use Rattle.afptool_lib.specs.declared.tool.checking.CheckEnd.{CheckEnd}
 use Rattle.afptool_lib.specs.declared.tool.checking.CheckEnd.TheVariants as ends

@@ -7,7 +7,7 @@ use Rattle.afp_outside.specs.ends.Whole.{PrintsPart}
 use Rattle.dsi_frame.specs.Frame.{Frame}
 use Rattle.dsi_frame.specs.Stream.{Spelled, Framed, Stopped}
 use Rattle.afptool_lib.specs.tool.Lines.{frame_lines, rest_line, bad_frame_line}
-use Rattle.afptool_lib.specs.tool.Telling.{Tells}
+use Rattle.afpd_lib.specs.server.Telling.{Tells}
 use Rattle.afptool_lib.specs.declared.tool.checking.CheckEnd.{CheckEnd}
 use Rattle.afptool_lib.specs.declared.tool.checking.CheckEnd.TheVariants as ends
 

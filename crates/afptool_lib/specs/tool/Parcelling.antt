@@ -10,7 +10,7 @@ use Rattle.apple_double.specs.declared.parcel.Parcel.{Parcel}
 use Rattle.apple_double.specs.declared.parcel.ParcelFault.{ParcelFault}
 use Rattle.apple_double.specs.declared.parcel.Shape.{Shape}
 use Rattle.apple_double.specs.declared.parcel.Shape.TheVariants.{Single, Double}
-use Rattle.afptool_lib.specs.tool.Telling.{Tells}
+use Rattle.afpd_lib.specs.server.Telling.{Tells}
 use Rattle.afptool_lib.specs.declared.tool.parcels.ParcelEnd.{ParcelEnd}
 use Rattle.afptool_lib.specs.declared.tool.parcels.ParcelEnd.TheVariants as ends
 

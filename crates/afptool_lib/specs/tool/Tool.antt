@@ -21,7 +21,7 @@ use Rattle.afptool_lib.specs.client.Words.{asks_client, client_in}
 use Rattle.afptool_lib.specs.declared.client.words.ClientWords.{ClientWords}
 use Rattle.afptool_lib.specs.tool.Parcelling.{RunsParcel}
 use Rattle.afptool_lib.specs.tool.Lines.{drill_line, replay_text, replay_status, tally_line}
-use Rattle.afptool_lib.specs.tool.Telling.{Tells}
+use Rattle.afpd_lib.specs.server.Telling.{Tells}
 use Rattle.afptool_lib.specs.declared.tool.words.Command.{Command}
 use Rattle.afptool_lib.specs.declared.tool.words.Command.TheVariants.{Replay, Check, Parcel as ParcelWord, Make, Tally, Drill}
 

@@ -5,7 +5,7 @@ ghost use Rattle.afp_outside.specs.ends.Whole.{PrintsAll};
 ghost use Rattle.dsi_frame.specs.Buffered.{buffer_length};
 ghost use Rattle.afptool_lib.specs.tool.Checking.{end_text, end_status, RunsCheck};
 ghost use Rattle.afptool_lib.specs.tool.lemma.Checking.{ChecksTo, PrintsFrames, PrintsTo};
-ghost use Rattle.afptool_lib.specs.tool.Telling.{Tells};
+ghost use Rattle.afpd_lib.specs.server.Telling.{Tells};
 
 use crate::tool::lines::{report_bad_frame, report_frame, report_rest};
 use afp_outside::{ReadResult, Sink, Source, print_all};

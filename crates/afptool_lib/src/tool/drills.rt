@@ -4,7 +4,7 @@ ghost use Rattle.afptool_lib.specs.teller.Keepers.{AreFresh};
 ghost use Rattle.capture_made.specs.requests.Requests.{most_steps};
 ghost use Rattle.record_keeper.specs.Records.{steadily};
 ghost use Rattle.afptool_lib.specs.tool.Lines.{drill_line};
-ghost use Rattle.afptool_lib.specs.tool.Telling.{Tells};
+ghost use Rattle.afpd_lib.specs.server.Telling.{Tells};
 ghost use Rattle.afptool_lib.specs.tool.Tool.{RunsDrill};
 
 use crate::teller::NewKeepers;

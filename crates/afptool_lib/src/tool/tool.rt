@@ -3,7 +3,7 @@ ghost use Rattle.std.specs.Prelude.{◌≡◌, ◌<◌, ◌^◌, false, map, str
 ghost use Rattle.afptool_lib.specs.teller.Keepers.{AreFresh};
 ghost use Rattle.record_keeper.specs.Records.{steadily};
 ghost use Rattle.afpd_lib.specs.server.Reporting.{bad_words};
-ghost use Rattle.afptool_lib.specs.tool.Telling.{Tells};
+ghost use Rattle.afpd_lib.specs.server.Telling.{Tells};
 ghost use Rattle.afptool_lib.specs.tool.Tool.{RunsPlain, RunsTool, command_in};
 
 use crate::client::{Finished, client_words, run_client_words};

@@ -1,7 +1,7 @@
 use Rattle.std.proofs.Common.{inl, inr, refl, subst, ℕ, List}
 use Rattle.afptool_lib.proofs.tool.drills.run_drill.Goals as goal
 use Rattle.afptool_lib.specs.tool.Lines.{drill_line}
-use Rattle.afptool_lib.specs.tool.Telling.{Tells}
+use Rattle.afpd_lib.specs.server.Telling.{Tells}
 use Rattle.afptool_lib.specs.tool.Tool.{drill_counts}
 
 pub new-requires : goal.new-requires
