@@ -1,5 +1,5 @@
 -- What a run of the tool prints, and its exit status (this profile).
-use Rattle.std.specs.Prelude.{◌≡◌, ◌≤◌, ◌⊎◌, ℕ, ◌-◌, ◌^◌, not, true, count_by, List, [], ◌∷◌, codes, bytes_eq, if◌then◌else◌, Option, Some, None}
+use Rattle.std.specs.Prelude.{◌≡◌, ◌≤◌, ◌⊎◌, ◌||◌, ℕ, ◌-◌, ◌^◌, Bool, not, true, count_by, List, [], ◌∷◌, codes, bytes_eq, if◌then◌else◌, Option, Some, None}
 use Rattle.afp_outside.specs.ends.Dialer.{DialerState}
 use Rattle.afp_outside.specs.ends.Link.{LinkState}
 use Rattle.afp_outside.specs.ends.Sink.{SinkState}
@@ -23,6 +23,8 @@ use Rattle.afptool_lib.specs.tool.Parcelling.{RunsParcel}
 use Rattle.afptool_lib.specs.tool.Lines.{drill_line, replay_text, replay_status, tally_line}
 use Rattle.afpd_lib.specs.server.Telling.{Tells}
 use Rattle.afptool_lib.specs.declared.tool.words.Command.{Command}
+use Rattle.afptool_lib.specs.declared.tool.words.Question.{Question}
+use Rattle.afptool_lib.specs.declared.tool.words.Question.TheVariants.{Help, Version}
 use Rattle.afptool_lib.specs.declared.tool.words.Command.TheVariants.{Replay, Check, Parcel as ParcelWord, Make, Tally, Drill}
 
 -- the largest number that a capture is made of
@@ -56,6 +58,18 @@ command_in (word ∷ []) = command_of word
 command_in (word ∷ other ∷ []) = None
 command_in (word ∷ number ∷ steps ∷ []) = made_in word (padded_number_in last_number number) (padded_number_in most_steps steps)
 command_in (word ∷ number ∷ steps ∷ other ∷ words) = None
+
+-- the words that ask for help, and for the version, as is usual
+abbrev pub is_help : List ℕ → Bool
+is_help word = bytes_eq word (codes "--help") || bytes_eq word (codes "-h")
+
+abbrev pub is_version : List ℕ → Bool
+is_version word = bytes_eq word (codes "--version") || bytes_eq word (codes "-V")
+
+-- what the words ask to be told, by the first of them
+abbrev pub question_in : List (List ℕ) → Option Question
+question_in [] = None
+question_in (word ∷ words) = if is_version word then Some Version else if is_help word then Some Help else None
 
 -- a made capture has so many steps at most, and so has a drill
 abbrev pub FitsSteps : Option Command → Type 0
@@ -103,20 +117,30 @@ drill_counts number steps =
 abbrev pub RunsDrill : ℕ → ℕ → SinkState → SinkState → ℕ → Type 0
 RunsDrill number steps before after status = Tells (drill_counts number steps) 0 before after status ⊎ ((status ≡ 6) × (after ≡ before))
 
+-- what `--version` prints
+abbrev pub version_line : List ℕ
+version_line = codes "afptool 0.1\n"
+
+-- A text that is asked for is printed, with status 0; words that ask nothing are bad.
+abbrev pub TellsAsked : Option Question → SinkState → SinkState → ℕ → Type 0
+TellsAsked None before after status = Tells bad_words 2 before after status
+TellsAsked (Some Help) before after status = (text : List ℕ) × Tells text 0 before after status
+TellsAsked (Some Version) before after status = Tells version_line 0 before after status
+
 -- what the tool does with a command that dials nothing, or with words that are none
-abbrev pub RunsPlain : Option Command → ℕ → SourceState → SourceState → SinkState → SinkState → ℕ → Type 0
-RunsPlain None turns old new before after status = (new ≡ old) × Tells bad_words 2 before after status
-RunsPlain (Some Replay) turns old new before after status = RunsReplay turns old new before after status
-RunsPlain (Some Check) turns old new before after status = RunsCheck turns old new before after status
-RunsPlain (Some ParcelWord) turns old new before after status = RunsParcel turns old new before after status
-RunsPlain (Some (Make number steps)) turns old new before after status = (new ≡ old) × RunsMake number steps before after status
-RunsPlain (Some (Tally number steps)) turns old new before after status = (new ≡ old) × RunsTally number steps before after status
-RunsPlain (Some (Drill number steps)) turns old new before after status = (new ≡ old) × RunsDrill number steps before after status
+abbrev pub RunsPlain : Option Question → Option Command → ℕ → SourceState → SourceState → SinkState → SinkState → ℕ → Type 0
+RunsPlain asked None turns old new before after status = (new ≡ old) × TellsAsked asked before after status
+RunsPlain asked (Some Replay) turns old new before after status = RunsReplay turns old new before after status
+RunsPlain asked (Some Check) turns old new before after status = RunsCheck turns old new before after status
+RunsPlain asked (Some ParcelWord) turns old new before after status = RunsParcel turns old new before after status
+RunsPlain asked (Some (Make number steps)) turns old new before after status = (new ≡ old) × RunsMake number steps before after status
+RunsPlain asked (Some (Tally number steps)) turns old new before after status = (new ≡ old) × RunsTally number steps before after status
+RunsPlain asked (Some (Drill number steps)) turns old new before after status = (new ≡ old) × RunsDrill number steps before after status
 
 -- A script is carried out by a client that logs in as the words say; or, where they are none of a client's, nothing is dialled.
-abbrev pub RunsBy : {L : Type 0} → (L → LinkState) → Option ClientWords → Option Command → ℕ → DialerState L → DialerState L → SourceState → SourceState → SinkState → SinkState → ℕ → Type 0
-RunsBy state (Some client) command turns first dialer old new before after status = RunsScript state turns client.login first dialer old new before after status
-RunsBy state None command turns first dialer old new before after status = (dialer ≡ first) × RunsPlain command turns old new before after status
+abbrev pub RunsBy : {L : Type 0} → (L → LinkState) → Option ClientWords → Option Question → Option Command → ℕ → DialerState L → DialerState L → SourceState → SourceState → SinkState → SinkState → ℕ → Type 0
+RunsBy state (Some client) asked command turns first dialer old new before after status = RunsScript state turns client.login first dialer old new before after status
+RunsBy state None asked command turns first dialer old new before after status = (dialer ≡ first) × RunsPlain asked command turns old new before after status
 
 -- There was no memory in which a client's words could be read; nothing was done.
 pub record LacksMemory {L : Type 0} (words : List (List ℕ)) (first dialer : DialerState L) (old new : SourceState) (before after : SinkState) (status : ℕ) : Type 0 where
@@ -129,4 +153,4 @@ pub record LacksMemory {L : Type 0} (words : List (List ℕ)) (first dialer : Di
 -- what the tool does with the words behind its name
 abbrev pub RunsTool : {L : Type 0} → (L → LinkState) → List (List ℕ) → ℕ → DialerState L → DialerState L → SourceState → SourceState → SinkState → SinkState → ℕ → Type 0
 RunsTool state words turns first dialer old new before after status =
-    RunsBy state (client_in words) (command_in words) turns first dialer old new before after status ⊎ LacksMemory words first dialer old new before after status
+    RunsBy state (client_in words) (question_in words) (command_in words) turns first dialer old new before after status ⊎ LacksMemory words first dialer old new before after status

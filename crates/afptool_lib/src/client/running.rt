@@ -8,11 +8,12 @@ use afp_outside::{Dialer, Sink, Source};
 use client_script_run::{ClientEnd, run_client};
 use std::alloc::Global;
 
-/// A dialer to which all its links were handed back, and the exit status.
+/// A dialer to which all its links were handed back, and the exit status; and how the script ended, where one was carried out.
 #[derive(Drop)]
 pub struct Finished<D> {
     pub dialer: D,
     pub status: u8,
+    pub end: Option<ClientEnd>,
 }
 
 /// The exit status of an end.
@@ -52,5 +53,6 @@ pub fn run_client_words<S: Source, O: Sink, D: Dialer>(
     Finished {
         dialer: ran.dialer,
         status: status_of(ran.end),
+        end: Some(ran.end),
     }
 }

@@ -4,15 +4,16 @@ ghost use Rattle.afptool_lib.specs.teller.Keepers.{AreFresh};
 ghost use Rattle.record_keeper.specs.Records.{steadily};
 ghost use Rattle.afpd_lib.specs.server.Reporting.{bad_words};
 ghost use Rattle.afpd_lib.specs.server.Telling.{Tells};
-ghost use Rattle.afptool_lib.specs.tool.Tool.{RunsPlain, RunsTool, command_in};
+ghost use Rattle.afptool_lib.specs.tool.Tool.{RunsPlain, RunsTool, TellsAsked, command_in, question_in};
 
 use crate::client::{Finished, client_words, run_client_words};
+use crate::explaining::{HELP, VERSION};
 use crate::tool::checking::run_check;
 use crate::tool::drills::run_drill;
 use crate::tool::made::{run_make, run_tally};
 use crate::tool::parcels::run_parcel;
 use crate::tool::replays::run_replay;
-use crate::tool::words::{Command, asked};
+use crate::tool::words::{Command, Question, asked, question_of};
 use afp_outside::{Dialer, Sink, Source, print_all};
 use record_keeper::Keeper;
 use std::alloc::Global;
@@ -22,6 +23,28 @@ fn refuse<O: Sink>(out: &mut O) -> u8
     ensures { Tells bad_words 2 (O.sink_state out.old) (O.sink_state out.new) result }
 {
     if print_all(out, b"bad words\n") { 2 } else { 5 }
+}
+
+/// Prints a text that was asked for.
+fn tell<O: Sink>(out: &mut O, text: &str) -> u8
+    ensures { Tells text.now 0 (O.sink_state out.old) (O.sink_state out.new) result }
+{
+    if print_all(out, text.as_bytes()) {
+        0
+    } else {
+        5
+    }
+}
+
+/// Tells what the words ask to be told, or that they are bad.
+fn answer<O: Sink>(out: &mut O, words: &[String]) -> u8
+    ensures { TellsAsked (question_in (map (λ word. string_bytes word) words.now)) (O.sink_state out.old) (O.sink_state out.new) result }
+{
+    match question_of(words) {
+        Some(Question::Help) => tell(out, HELP),
+        Some(Question::Version) => tell(out, VERSION),
+        None => refuse(out),
+    }
 }
 
 /// Does what the words ask that dials nothing, and gives the exit status.
@@ -36,7 +59,7 @@ fn run_plain<K: Keeper, S: Source, O: Sink>(
     requires keepers { AreFresh (steadily K.steady K.records) K.sure fresh.items }
     requires turns { turns < 2 ^ 63 }
     requires fresh { (S.source_state source.old).ended ≡ false }
-    ensures { RunsPlain (command_in (map (λ word. string_bytes word) words.now)) turns (S.source_state source.old) (S.source_state source.new) (O.sink_state out.old) (O.sink_state out.new) result }
+    ensures { RunsPlain (question_in (map (λ word. string_bytes word) words.now)) (command_in (map (λ word. string_bytes word) words.now)) turns (S.source_state source.old) (S.source_state source.new) (O.sink_state out.old) (O.sink_state out.new) result }
 {
     match asked(words) {
         Some(Command::Replay) => run_replay(alloc, fresh, source, out, turns),
@@ -45,7 +68,7 @@ fn run_plain<K: Keeper, S: Source, O: Sink>(
         Some(Command::Make { number, steps }) => run_make(alloc, fresh, number, steps, out),
         Some(Command::Tally { number, steps }) => run_tally(alloc, fresh, number, steps, out),
         Some(Command::Drill { number, steps }) => run_drill(alloc, fresh, number, steps, out),
-        None => refuse(out),
+        None => answer(out, words),
     }
 }
 
@@ -59,7 +82,8 @@ fn run_plain<K: Keeper, S: Source, O: Sink>(
 /// then `rest N`, with status 0 where N is 0 and else 3, or `bad at A REASON` with status 3. `parcel` reads an AppleSingle or AppleDouble file, and
 /// prints `single data N resource M` or `double data N resource M`, or `bad parcel` with status 3. `make N K` prints the capture of a number
 /// N below 2^64 and K steps, at most 100,000; `tally N K` prints what is counted in it, and `drill N K` what is counted where a client makes the
-/// steps of that drill over links that break. These three read nothing. All but `client` dial nothing. The status is 2 for other words, with the line `bad words`; 4 where a read failed; 5 where a write failed; 6 for want of memory; and 8 where it
+/// steps of that drill over links that break. These three read nothing. All but `client` dial nothing. `--help` and `--version`, as
+/// the first word, print a text with status 0. The status is 2 for other words, with the line `bad words`; 4 where a read failed; 5 where a write failed; 6 for want of memory; and 8 where it
 /// would read or dial again and `turns` is reached. Of `client` it is 1 where an opening was refused, 3 for a bad line, 7 where links broke or
 /// none was dialled, 9 where the session was lost, and 10 for a bad reply.
 pub fn afptool<K: Keeper, S: Source, O: Sink, D: Dialer>(
@@ -81,7 +105,12 @@ pub fn afptool<K: Keeper, S: Source, O: Sink, D: Dialer>(
         Ok(None) => Finished {
             status: run_plain(alloc, words, fresh, source, out, turns),
             dialer,
+            end: None,
         },
-        Err(_) => Finished { dialer, status: 6 },
+        Err(_) => Finished {
+            dialer,
+            status: 6,
+            end: None,
+        },
     }
 }

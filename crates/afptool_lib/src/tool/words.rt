@@ -1,7 +1,7 @@
 //! The words of the command line.
 ghost use Rattle.std.specs.Prelude.{◌≡◌, ◌≤◌, IfSome, map, string_bytes};
 ghost use Rattle.capture_made.specs.requests.Requests.{most_steps};
-ghost use Rattle.afptool_lib.specs.tool.Tool.{FitsSteps, command_in, command_of, last_number, made_in, made_of};
+ghost use Rattle.afptool_lib.specs.tool.Tool.{FitsSteps, command_in, command_of, is_help, is_version, last_number, made_in, made_of, question_in};
 ghost use Rattle.line_words.specs.Numbers.{padded_number_in};
 
 use capture_made::MOST_STEPS;
@@ -94,4 +94,43 @@ pub fn asked(words: &[String]) -> Option<Command>
         [word, first, second] => made_in(word.as_bytes(), first.as_bytes(), second.as_bytes()),
         _ => None,
     }
+}
+
+/// What words may ask to be told.
+#[derive(Clone, Copy, PartialEq, Eq)]
+pub enum Question {
+    /// What the commands are.
+    Help,
+    /// Which version this is.
+    Version,
+}
+
+/// Whether a word asks for help.
+fn is_help(word: &[u8]) -> bool
+    ensures { result ≡ is_help word.now }
+{
+    word == b"--help".as_slice() || word == b"-h".as_slice()
+}
+
+/// Whether a word asks for the version.
+fn is_version(word: &[u8]) -> bool
+    ensures { result ≡ is_version word.now }
+{
+    word == b"--version".as_slice() || word == b"-V".as_slice()
+}
+
+/// What the words behind the program's name ask to be told: the first one says it.
+pub fn question_of(words: &[String]) -> Option<Question>
+    ensures { result ≡ question_in (map (λ word. string_bytes word) words.now) }
+{
+    let [word, ..] = words else {
+        return None;
+    };
+    if is_version(word.as_bytes()) {
+        return Some(Question::Version);
+    }
+    if is_help(word.as_bytes()) {
+        return Some(Question::Help);
+    }
+    None
 }
