@@ -22,11 +22,11 @@ told-more : (o n : Option (List Event)) (more all : List Event) → n ≡ option
 told-more None n more all e h = subst (λ (x : Option (List Event)). IfSome x (λ es. es ≡ all ++ more)) (sym e) tt
 told-more (Some es) n more all e h = subst (λ (x : Option (List Event)). IfSome x (λ es. es ≡ all ++ more)) (sym e) (ap (λ (x : List Event). x ++ more) h)
 
-told-same : (o n : Option (List Event)) (all : List Event) → n ≡ o → IfSome o (λ es. es ≡ all) → IfSome n (λ es. es ≡ all)
+pub told-same : (o n : Option (List Event)) (all : List Event) → n ≡ o → IfSome o (λ es. es ≡ all) → IfSome n (λ es. es ≡ all)
 told-same o n all e h = subst (λ (x : Option (List Event)). IfSome x (λ es. es ≡ all)) (sym e) h
 
 -- a first part of what is to be written was written
-sent-part : (o n : Option (List ℕ)) (wrote rest out all : List ℕ) → n ≡ option_map (λ before. before ++ wrote) o → wrote ++ rest ≡ out
+pub sent-part : (o n : Option (List ℕ)) (wrote rest out all : List ℕ) → n ≡ option_map (λ before. before ++ wrote) o → wrote ++ rest ≡ out
     → IfSome o (λ w. w ++ out ≡ all) → IfSome n (λ w. w ++ rest ≡ all)
 sent-part None n wrote rest out all e cut h = subst (λ (x : Option (List ℕ)). IfSome x (λ w. w ++ rest ≡ all)) (sym e) tt
 sent-part (Some w) n wrote rest out all e cut h =
@@ -54,7 +54,7 @@ notes_some [] now old new some wrote replied = absurd (some refl)
 notes_some (b ∷ bytes) now old new some wrote replied = record { wrote = wrote; replied = replied }
 
 -- a part is written yet of what is to be written: the moment of the write stands
-still-wrote : (wrote rest out : List ℕ) (now last then : ℕ) → wrote ++ rest ≡ out → then ≡ wrote_with out now last → wrote_with rest now then ≡ wrote_with out now last
+pub still-wrote : (wrote rest out : List ℕ) (now last then : ℕ) → wrote ++ rest ≡ out → then ≡ wrote_with out now last → wrote_with rest now then ≡ wrote_with out now last
 still-wrote wrote [] out now last then cut is = is
 still-wrote [] (b ∷ rest) [] now last then cut is = absurd (cc cut)
 still-wrote [] (b ∷ rest) (d ∷ out) now last then cut is = refl
@@ -62,36 +62,37 @@ still-wrote (a ∷ wrote) (b ∷ rest) [] now last then cut is = absurd (cc cut)
 still-wrote (a ∷ wrote) (b ∷ rest) (d ∷ out) now last then cut is = refl
 
 -- bytes were written
+abbrev pub sends-here : (start : Start) (all : List Happening) (c : Client) (out wrote rest : List ℕ) (link new : LinkState) (noted then_noted : Noted) (cost failed : ℕ)
+    → OnLink start all (spot c out link noted cost) → wrote ++ rest ≡ out → Sends link wrote failed new → NotesWrite out link.now noted then_noted → OnLink start all (spot c rest new then_noted cost)
+sends-here start all c out wrote rest link new noted then_noted cost failed on cut s n = record {
+  leads = on.leads;
+  told = told-same link.events new.events (events_in all) s.events on.told;
+  filled = on.filled;
+  spelled = on.spelled;
+  came = on.came;
+  place = on.place;
+  sent = sent-part link.written new.written wrote rest out (to_write all) s.written cut on.sent;
+  replied = n.replied ∙ on.replied;
+  cost = on.cost;
+  below = on.below;
+  within = on.within;
+  began = on.began;
+  moment = s.now ∙ on.moment;
+  last_read = s.last_read ∙ on.last_read;
+  last_write = ap (λ (now : ℕ). wrote_with rest now then_noted.pulse.last_write) s.now ∙ still-wrote wrote rest out link.now noted.pulse.last_write then_noted.pulse.last_write cut n.wrote ∙ on.last_write;
+  reads = on.reads;
+  idles = on.idles;
+}
+
 pub on-sends : (start : Start) (all : List Happening) (c : Client) (out wrote rest : List ℕ) (link new : LinkState) (noted then_noted : Noted) (cost failed : ℕ)
     → LiveOn start all (spot c out link noted cost) → wrote ++ rest ≡ out → Sends link wrote failed new → NotesWrite out link.now noted then_noted → LiveOn start all (spot c rest new then_noted cost)
 on-sends start all c out wrote rest link new noted then_noted cost failed live cut s n =
-    let on = live.on in record {
-      on = record {
-        leads = on.leads;
-        told = told-same link.events new.events (events_in all) s.events on.told;
-        filled = on.filled;
-        spelled = on.spelled;
-        came = on.came;
-        place = on.place;
-        sent = sent-part link.written new.written wrote rest out (to_write all) s.written cut on.sent;
-        replied = n.replied ∙ on.replied;
-        cost = on.cost;
-        below = on.below;
-        within = on.within;
-        began = on.began;
-        moment = s.now ∙ on.moment;
-        last_read = s.last_read ∙ on.last_read;
-        last_write = ap (λ (now : ℕ). wrote_with rest now then_noted.pulse.last_write) s.now ∙ still-wrote wrote rest out link.now noted.pulse.last_write then_noted.pulse.last_write cut n.wrote ∙ on.last_write;
-        reads = on.reads;
-        idles = on.idles;
-      };
-      rests = live.rests;
-    }
+    record { on = sends-here start all c out wrote rest link new noted then_noted cost failed live.on cut s n; rests = live.rests }
 
 -- a write failed behind a first part of what is to be written
-pub on-part : (start : Start) (all : List Happening) (c : Client) (out : List ℕ) (link new : LinkState) (noted then_noted : Noted) (cost : ℕ)
-    → LiveOn start all (spot c out link noted cost) → (s : SendsPart link out new) → NotesWrite out link.now noted then_noted → LiveOn start all (spot c s.lost new then_noted cost)
-on-part start all c out link new noted then_noted cost live s n = on-sends start all c out s.part s.lost link new noted then_noted cost 1 live s.cut s.sends n
+pub part-here : (start : Start) (all : List Happening) (c : Client) (out : List ℕ) (link new : LinkState) (noted then_noted : Noted) (cost : ℕ)
+    → OnLink start all (spot c out link noted cost) → (s : SendsPart link out new) → NotesWrite out link.now noted then_noted → OnLink start all (spot c s.lost new then_noted cost)
+part-here start all c out link new noted then_noted cost on s n = sends-here start all c out s.part s.lost link new noted then_noted cost 1 on s.cut s.sends n
 
 -- its fault is counted
 pub unsent-counted : (link new : LinkState) (out : List ℕ) → SendsPart link out new → 0 < new.write_faults
@@ -105,30 +106,27 @@ wrote-step (Some f) now last in_all e before l = e
 -- a frame was taken, where all was written
 pub on-takes : (start : Start) (all : List Happening) (old new : Client) (out_after : List ℕ) (link : LinkState) (noted now_noted : Noted) (cost : ℕ) (event : ClientEvent)
     → LiveOn start all (spot old [] link noted cost) → (t : TakesNext old [] event new out_after) → now_noted ≡ record noted { replied = is_reply (is_opened old.state.stage) event || noted.replied }
-    → LiveOn start (took old.state t.frame (step new.state t.writes event) ∷ all) (spot new out_after link now_noted cost)
+    → OnLink start (took old.state t.frame (step new.state t.writes event) ∷ all) (spot new out_after link now_noted cost)
 on-takes start all old new out_after link noted now_noted cost event live t is =
     let on = live.on in record {
-      on = record {
-        leads = (on.leads, t.live, t.found, t.tells, t.taken, refl);
-        told = on.told;
-        filled = on.filled ++ t.first;
-        spelled = spelled_push on.filled t.first (taken_in all) t.frame on.spelled t.spelling;
-        came = on.came ∙ ap (λ (x : List ℕ). on.filled ++ x) t.whole ∙ sym (append_assoc on.filled t.first new.held.rest);
-        place = omega (arith, t.place, on.place, length-append on.filled t.first);
-        sent = subst (λ (x : List ℕ). IfSome link.written (λ w. w ++ x ≡ to_write all ++ written t.writes)) (sym t.sent) (sent-more link.written [] (written t.writes) (to_write all) on.sent);
-        replied = ap (λ (n : Noted). n.replied) is ∙ ap (λ (b : Bool). is_reply (is_opened old.state.stage) event || b) on.replied;
-        cost = on.cost;
-        below = on.below;
-        within = on.within;
-        began = on.began;
-        moment = on.moment;
-        last_read = on.last_read;
-        last_write = ap (λ (x : List ℕ). wrote_with x link.now now_noted.pulse.last_write) t.sent ∙ wrote-step t.writes link.now now_noted.pulse.last_write (now_in on.began all) on.moment (wrote_in on.began all)
-            (ap (λ (n : Noted). n.pulse.last_write) is ∙ on.last_write);
-        reads = on.reads;
-        idles = (on.idles, live.rests);
-      };
-      rests = tt;
+      leads = (on.leads, t.live, t.found, t.tells, t.taken, refl);
+      told = on.told;
+      filled = on.filled ++ t.first;
+      spelled = spelled_push on.filled t.first (taken_in all) t.frame on.spelled t.spelling;
+      came = on.came ∙ ap (λ (x : List ℕ). on.filled ++ x) t.whole ∙ sym (append_assoc on.filled t.first new.held.rest);
+      place = omega (arith, t.place, on.place, length-append on.filled t.first);
+      sent = subst (λ (x : List ℕ). IfSome link.written (λ w. w ++ x ≡ to_write all ++ written t.writes)) (sym t.sent) (sent-more link.written [] (written t.writes) (to_write all) on.sent);
+      replied = ap (λ (n : Noted). n.replied) is ∙ ap (λ (b : Bool). is_reply (is_opened old.state.stage) event || b) on.replied;
+      cost = on.cost;
+      below = on.below;
+      within = on.within;
+      began = on.began;
+      moment = on.moment;
+      last_read = on.last_read;
+      last_write = ap (λ (x : List ℕ). wrote_with x link.now now_noted.pulse.last_write) t.sent ∙ wrote-step t.writes link.now now_noted.pulse.last_write (now_in on.began all) on.moment (wrote_in on.began all)
+          (ap (λ (n : Noted). n.pulse.last_write) is ∙ on.last_write);
+      reads = on.reads;
+      idles = (on.idles, live.rests);
     }
 
 -- all that stood before a read was written

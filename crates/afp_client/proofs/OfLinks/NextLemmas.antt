@@ -9,14 +9,14 @@ use Rattle.afp_client.specs.session.Happens.{Happens, TakesNext, StaysAsItIs, Is
 use Rattle.afp_client.specs.declared.session.event.Event.{Event}
 use Rattle.afp_client.specs.declared.session.event.Event.TheVariants as events
 use Rattle.afp_client.specs.links.History.{Happening, took, is_reply}
-use Rattle.afp_client.specs.links.OnLink.{Start, spot, LiveOn, closed_by_server, failed_write}
+use Rattle.afp_client.specs.links.OnLink.{KeepsLink, OnLink, Start, spot, LiveOn, closed_by_server, failed_write}
 use Rattle.afp_client.specs.links.Coming.{Same, GoesOn, StaysOn, ComesBy, BreaksLink}
 use Rattle.afp_client.specs.links.lemma.Coming.{NextOn, NotesWrite, next_of, opened_next}
 use Rattle.afp_client.specs.declared.links.noted.Noted.{Noted}
 use Rattle.afp_base.specs.declared.code.Code.{Code}
 use Rattle.afp_client.specs.declared.links.came.Came.TheVariants as comes
 use Rattle.afp_client.specs.declared.links.came.Next.TheVariants as nexts
-use Rattle.afp_client.proofs.OfLinks.LinkLemmas.{on-sends, on-part, unsent-counted, on-takes}
+use Rattle.afp_client.proofs.OfLinks.LinkLemmas.{on-sends, part-here, sends-here, unsent-counted, on-takes}
 use Rattle.afp_client.proofs.OfLinks.TellLemmas.{step_alone, told_ready}
 
 -- all is written
@@ -44,10 +44,10 @@ notes old event noted = record noted { replied = is_reply (is_opened old.state.s
 
 took-on : (start : Start) (all : List Happening) (old new : Client) (out : List ℕ) (link after : LinkState) (noted now_noted then_noted : Noted) (cost : ℕ) (event : Event)
     → LiveOn start all (spot old [] link noted cost) → (t : TakesNext old [] event new out) → now_noted ≡ notes old event noted → Sends link out 0 after → NotesWrite out link.now now_noted then_noted
-    → LiveOn start (took old.state t.frame (step new.state t.writes event) ∷ all) (spot new [] after then_noted cost)
+    → OnLink start (took old.state t.frame (step new.state t.writes event) ∷ all) (spot new [] after then_noted cost)
 took-on start all old new out link after noted now_noted then_noted cost event live t is sends n =
-    on-sent start (took old.state t.frame (step new.state t.writes event) ∷ all) new out link after now_noted then_noted cost
-    (on-takes start all old new out link noted now_noted cost event live t is) sends n
+    sends-here start (took old.state t.frame (step new.state t.writes event) ∷ all) new out out [] link after now_noted then_noted cost 0
+    (on-takes start all old new out link noted now_noted cost event live t is) (append-nil out) sends n
 
 comes-on : (start : Start) (all : List Happening) (old new : Client) (out : List ℕ) (link after : LinkState) (noted now_noted then_noted : Noted) (cost : ℕ) (event : Event)
     → LiveOn start all (spot old [] link noted cost) → (t : TakesNext old [] event new out) → now_noted ≡ notes old event noted → Sends link out 0 after → NotesWrite out link.now now_noted then_noted
@@ -58,7 +58,7 @@ comes-on start all old new out link after noted now_noted then_noted cost event 
       mid = old.state;
       frame = t.frame;
       step = step new.state t.writes event;
-      on = here.on;
+      on = here;
       is = refl;
       same = record { results = λ was. refl; asked = λ was. refl; limits = λ was. refl };
     }
@@ -81,12 +81,12 @@ same-took all s f t writes events.Tickle q = record { results = λ was. refl; as
 same-took all s f t writes (events.Attention word) q = record { results = λ was. refl; asked = λ was. refl; limits = λ was. refl }
 same-took all s f t writes events.Closed q = record { results = λ was. refl; asked = λ was. refl; limits = λ was. refl }
 
-goes-on : (start : Start) (all : List Happening) (old new : Client) (out : List ℕ) (link after : LinkState) (noted now_noted then_noted : Noted) (cost : ℕ) (event : Event) → IsQuietEvent event
+goes-on : (start : Start) (all : List Happening) (old new : Client) (out : List ℕ) (link after : LinkState) (noted now_noted then_noted : Noted) (cost : ℕ) (event : Event) → IsQuietEvent event → KeepsLink event
     → LiveOn start all (spot old [] link noted cost) → (t : TakesNext old [] event new out) → now_noted ≡ notes old event noted → Sends link out 0 after → NotesWrite out link.now now_noted then_noted
     → GoesOn start all new after then_noted cost
-goes-on start all old new out link after noted now_noted then_noted cost event q on t is sends n = record {
+goes-on start all old new out link after noted now_noted then_noted cost event q keeps on t is sends n = record {
   now = took old.state t.frame (step new.state t.writes event) ∷ all;
-  on = took-on start all old new out link after noted now_noted then_noted cost event on t is sends n;
+  on = record { on = took-on start all old new out link after noted now_noted then_noted cost event on t is sends n; rests = keeps };
   same = same-took all old.state t.frame new.state t.writes event q;
 }
 
@@ -94,7 +94,7 @@ ready-on : (start : Start) (turns : ℕ) (all : List Happening) (old new : Clien
     → LiveOn start all (spot old [] link noted cost) → (t : TakesNext old [] events.Ready new out) → now_noted ≡ notes old events.Ready noted → Sends link out 0 after → NotesWrite out link.now now_noted then_noted
     → NextOn start turns all (opened_next opening) new after then_noted cost
 ready-on start turns all old new out link after noted now_noted then_noted cost true on t is sends n = comes-on start all old new out link after noted now_noted then_noted cost events.Ready on t is sends n
-ready-on start turns all old new out link after noted now_noted then_noted cost false on t is sends n = goes-on start all old new out link after noted now_noted then_noted cost events.Ready tt on t is sends n
+ready-on start turns all old new out link after noted now_noted then_noted cost false on t is sends n = goes-on start all old new out link after noted now_noted then_noted cost events.Ready tt tt on t is sends n
 
 pub next-on : (start : Start) (turns : ℕ) (all : List Happening) (old new : Client) (out : List ℕ) (link after : LinkState) (noted now_noted then_noted : Noted) (cost : ℕ) (opening : Bool) (at : ℕ) (event : Event)
     → at ≡ old.held.place → LiveOn start all (spot old [] link noted cost) → Happens old [] event new out → now_noted ≡ notes old event noted → Sends link out 0 after → NotesWrite out link.now now_noted then_noted
@@ -108,7 +108,7 @@ next-on start turns all old new out link after noted now_noted then_noted cost o
 }
 next-on start turns all old new out link after noted now_noted then_noted cost opening at events.Memory place on h is sends n =
     stays-for-memory start all new after then_noted cost (stays-on start all old new out link after noted now_noted then_noted cost on h is sends n)
-next-on start turns all old new out link after noted now_noted then_noted cost opening at events.Step place on h is sends n = goes-on start all old new out link after noted now_noted then_noted cost events.Step tt on h is sends n
+next-on start turns all old new out link after noted now_noted then_noted cost opening at events.Step place on h is sends n = goes-on start all old new out link after noted now_noted then_noted cost events.Step tt tt on h is sends n
 next-on start turns all old new out link after noted now_noted then_noted cost opening at events.Ready place on h is sends n = ready-on start turns all old new out link after noted now_noted then_noted cost opening on h is sends n
 next-on start turns all old new out link after noted now_noted then_noted cost opening at (events.Told c block) place on h is sends n = record {
   by = record {
@@ -116,7 +116,7 @@ next-on start turns all old new out link after noted now_noted then_noted cost o
     mid = old.state;
     frame = h.frame;
     step = step new.state h.writes (events.Told c block);
-    on = (took-on start all old new out link after noted now_noted then_noted cost (events.Told c block) on h is sends n).on;
+    on = took-on start all old new out link after noted now_noted then_noted cost (events.Told c block) on h is sends n;
     is = refl;
     same = record { results = λ was. refl; asked = λ was. refl; limits = λ was. refl };
   };
@@ -124,12 +124,12 @@ next-on start turns all old new out link after noted now_noted then_noted cost o
 }
 next-on start turns all old new out link after noted now_noted then_noted cost opening at (events.Refused c) place on h is sends n = comes-on start all old new out link after noted now_noted then_noted cost (events.Refused c) on h is sends n
 next-on start turns all old new out link after noted now_noted then_noted cost opening at (events.Lost c) place on h is sends n = comes-on start all old new out link after noted now_noted then_noted cost (events.Lost c) on h is sends n
-next-on start turns all old new out link after noted now_noted then_noted cost opening at events.Tickle place on h is sends n = goes-on start all old new out link after noted now_noted then_noted cost events.Tickle tt on h is sends n
-next-on start turns all old new out link after noted now_noted then_noted cost opening at (events.Attention word) place on h is sends n = goes-on start all old new out link after noted now_noted then_noted cost (events.Attention word) tt on h is sends n
+next-on start turns all old new out link after noted now_noted then_noted cost opening at events.Tickle place on h is sends n = goes-on start all old new out link after noted now_noted then_noted cost events.Tickle tt tt on h is sends n
+next-on start turns all old new out link after noted now_noted then_noted cost opening at (events.Attention word) place on h is sends n = goes-on start all old new out link after noted now_noted then_noted cost (events.Attention word) tt tt on h is sends n
 next-on start turns all old new out link after noted now_noted then_noted cost opening at events.Closed place on h is sends n = record {
   now = took old.state h.frame (step new.state h.writes events.Closed) ∷ all;
   lost = [];
-  on = (took-on start all old new out link after noted now_noted then_noted cost events.Closed on h is sends n).on;
+  on = took-on start all old new out link after noted now_noted then_noted cost events.Closed on h is sends n;
   same = same-took all old.state h.frame new.state h.writes events.Closed tt;
   broke = closed_by_server refl refl;
 }
@@ -144,8 +144,8 @@ breaks-took : (start : Start) (all : List Happening) (old new : Client) (out : L
 breaks-took start all old new out link after noted now_noted then_noted cost event q on t is s n = record {
   now = took old.state t.frame (step new.state t.writes event) ∷ all;
   lost = s.lost;
-  on = (on-part start (took old.state t.frame (step new.state t.writes event) ∷ all) new out link after now_noted then_noted cost
-      (on-takes start all old new out link noted now_noted cost event on t is) s n).on;
+  on = part-here start (took old.state t.frame (step new.state t.writes event) ∷ all) new out link after now_noted then_noted cost
+      (on-takes start all old new out link noted now_noted cost event on t is) s n;
   same = same-took all old.state t.frame new.state t.writes event q;
   broke = failed_write (unsent-counted link after out s) s.some_lost;
 }

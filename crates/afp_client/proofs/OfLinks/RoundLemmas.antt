@@ -16,7 +16,7 @@ use Rattle.afp_client.specs.links.lemma.Coming.{NotesWrite, RoundOn}
 use Rattle.afp_client.specs.declared.links.noted.Noted.{Noted}
 use Rattle.afp_client.specs.declared.links.came.Came.{Came}
 use Rattle.afp_client.specs.declared.links.came.Came.TheVariants as comes
-use Rattle.afp_client.proofs.OfLinks.LinkLemmas.{on-part, unsent-counted, on-receives, on-quiet, on-last, on-tickles}
+use Rattle.afp_client.proofs.OfLinks.LinkLemmas.{part-here, unsent-counted, on-receives, on-quiet, on-last, on-tickles}
 use Rattle.afp_client.proofs.OfLinks.NextLemmas.{on-sent}
 
 pub same-same : (all : List Happening) → Same all all
@@ -133,7 +133,7 @@ pub tickle-unsent : (start : Start) (all : List Happening) (c : Client) (out : L
 tickle-unsent start all c out link after noted then_noted cost on due is s n = record {
   now = tickled ∷ all;
   lost = s.lost;
-  on = (on-part start (tickled ∷ all) c out link after noted then_noted cost (on-tickles start all c out link noted cost on due is) s n).on;
+  on = part-here start (tickled ∷ all) c out link after noted then_noted cost (on-tickles start all c out link noted cost on due is).on s n;
   same = record { results = λ was. refl; asked = λ was. refl; limits = λ was. refl };
   broke = failed_write (unsent-counted link after out s) s.some_lost;
 }
@@ -189,7 +189,7 @@ pub unsent : (start : Start) (all : List Happening) (c : Client) (out : List ℕ
 unsent start all c out link after noted then_noted cost on s n = record {
   now = all;
   lost = s.lost;
-  on = (on-part start all c out link after noted then_noted cost on s n).on;
+  on = part-here start all c out link after noted then_noted cost on.on s n;
   same = same-same all;
   broke = failed_write (unsent-counted link after out s) s.some_lost;
 }

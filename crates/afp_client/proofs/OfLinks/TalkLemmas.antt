@@ -12,7 +12,7 @@ use Rattle.afp_client.specs.declared.session.event.Event.TheVariants as events
 use Rattle.afp_outside.specs.ends.Dialer.{DialerState, TakesBack}
 use Rattle.afp_outside.specs.ends.Whole.{SendsAll}
 use Rattle.afp_client.specs.links.History.{Happening, asks, close_session_frame, took, asked_in, results_in, asked_by, result_by, told_to}
-use Rattle.afp_client.specs.links.OnLink.{Start, spot, LiveOn}
+use Rattle.afp_client.specs.links.OnLink.{KeepsLink, Start, spot, LiveOn}
 use Rattle.afp_client.specs.links.Links.{Part, Over, Hands, dialled, links_of, asked_of, limits_of, results_of, all_asked, all_limits, all_results}
 use Rattle.afp_client.specs.declared.links.talk.Limit.{Limit}
 use Rattle.afp_client.specs.links.Coming.{ComesBy, ComesTold, CameOn}
@@ -34,6 +34,13 @@ result-told : (was : Option Call) (call : Call) (c : Code) (block : List ℕ) (e
 result-told was call c block event before waits is =
     ap (λ (e : Event). result_by was e before) is ∙ ap (λ (w : Option Call). told_to w c block before) waits
 
+-- behind a reply, and behind an opening that is done, a link goes on
+told-keeps : (c : Code) (block : List ℕ) (event : Event) → event ≡ events.Told c block → KeepsLink event
+told-keeps c block event is = subst (λ (e : Event). KeepsLink e) (sym is) tt
+
+ready-keeps : (event : Event) → event ≡ events.Ready → KeepsLink event
+ready-keeps event is = subst (λ (e : Event). KeepsLink e) (sym is) tt
+
 pub tells-call : {L : Type 0} (state : L → LinkState) (turns : ℕ) (first : Start) (old : DialerState L) (past : List (Part L)) (all asked_all : List Happening) (call : Call) (link : L) (at : ℕ) (c : Code) (block : List ℕ)
     (client : Client) (noted : Noted) (idle cost : ℕ) (new : DialerState L)
     → ((was : Option Call) → all_results was past asked_all ≡ all_results was past all) → ((was : Option Call) → all_asked was past asked_all ≡ Some call)
@@ -45,7 +52,7 @@ tells-call {L = L} state turns first old past all asked_all call link at c block
     let b : ComesBy (dialled l.from) l.now (events.Told c block) client (state link) noted cost = told.by in record {
       later = l.later;
       now = took b.mid b.frame b.step ∷ b.before;
-      over = record { from = l.from; past_is = l.past_is; on = record { on = b.on; rests = tt }; in_a_row = l.in_a_row; hands = l.hands };
+      over = record { from = l.from; past_is = l.past_is; on = record { on = b.on; rests = told-keeps c block b.step.event b.is }; in_a_row = l.in_a_row; hands = l.hands };
       results = λ was.
           let w = asked_of was l.later in
           let asked_then : asked_in w b.before ≡ Some call = b.same.asked w ∙ l.same.asked was ∙ waits was in
@@ -55,7 +62,7 @@ tells-call {L = L} state turns first old past all asked_all call link at c block
           (ap (λ (rs : List CallResult). results_of was l.later ++ rs) (b.same.results w) ∙ l.same.results was ∙ stay was);
       limits = λ was. b.same.limits (limits_of was l.later) ∙ l.same.limits was ∙ unlimited was;
       before = b.before;
-      behind = (b.mid, b.frame, b.step, refl);
+      behind = (b.mid, b.frame, b.step, refl, b.is);
       stands = told.stands;
     }
 
@@ -149,7 +156,7 @@ pub opens-left : {L : Type 0} (state : L → LinkState) (turns : ℕ) (first : S
 opens-left {L = L} state turns first old past link came (Ok same) client noted idle cost mid new l t =
     let b : ComesBy (dialled l.from) l.now events.Ready client (state link) noted cost = subst (λ (x : Came). CameOn (dialled l.from) turns l.now x client (state link) noted cost) t.1 l.comes in
     let over : Over state first old l.later (took b.mid b.frame b.step ∷ b.before) (spot client [] (state link) noted cost) idle mid =
-    record { from = l.from; past_is = l.past_is; on = record { on = b.on; rests = tt }; in_a_row = l.in_a_row; hands = l.hands } in record {
+    record { from = l.from; past_is = l.past_is; on = record { on = b.on; rests = ready-keeps b.step.event b.is }; in_a_row = l.in_a_row; hands = l.hands } in record {
       later = l.later;
       now = took b.mid b.frame b.step ∷ b.before;
       same = record {

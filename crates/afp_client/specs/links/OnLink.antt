@@ -4,6 +4,7 @@ use Rattle.afp_outside.specs.ends.Link.{LinkState}
 use Rattle.dsi_frame.specs.Stream.{Framed, Spelled}
 use Rattle.dsi_session.specs.Pulse.{IsDue, Moments}
 use Rattle.dsi_session.specs.declared.pulse.Due.TheVariants as dues
+use Rattle.afp_client.specs.declared.session.event.Event.{Event}
 use Rattle.afp_client.specs.declared.session.event.Event.TheVariants as events
 use Rattle.afp_client.specs.session.State.{Client, ClientState}
 use Rattle.afp_client.specs.links.History.{Happening, received, was_quiet, read_last, tickled, limited, asks, took, allowed, events_in, came_in, taken_in, to_write, cost_in, limits_in, now_in, read_in, replied_in, wrote_in, Leads}
@@ -66,7 +67,15 @@ EachMayRead (took s f st ∷ all) = EachMayRead all
 abbrev pub moments_in : ℕ → List Happening → Moments
 moments_in began all = record { last_read = read_in began all; last_write = wrote_in began all }
 
--- The link goes on behind this: where a quiet happened last, nothing was due at it; and no read was the last.
+-- A link goes on behind such an event: the server closed no session, refused no opening, and lost none.
+abbrev pub KeepsLink : Event → Type 0
+KeepsLink events.Closed = ⊥
+KeepsLink (events.Refused c) = ⊥
+KeepsLink (events.Lost c) = ⊥
+KeepsLink event = Unit {0}
+
+-- The link goes on behind this: where a quiet happened last, nothing was due at it; no read was the last; and where a frame was taken last, a link
+-- goes on behind it.
 abbrev pub Rests : ℕ → List Happening → Type 0
 Rests began [] = Unit {0}
 Rests began (received before now bytes ∷ all) = Unit {0}
@@ -75,7 +84,7 @@ Rests began (read_last before now ∷ all) = ⊥
 Rests began (tickled ∷ all) = Unit {0}
 Rests began (limited l ∷ all) = Unit {0}
 Rests began (asks s call ∷ all) = Unit {0}
-Rests began (took s f st ∷ all) = Unit {0}
+Rests began (took s f st ∷ all) = KeepsLink st.event
 
 -- A quiet happened last, and a Tickle was due at it.
 abbrev pub IsTickleDue : ℕ → List Happening → Type 0
@@ -87,7 +96,8 @@ abbrev pub IsSilent : ℕ → List Happening → Type 0
 IsSilent began (was_quiet before now ∷ all) = IsDue (moments_in began all) now dues.Silent
 IsSilent began all = ⊥
 
--- A Tickle was written right behind each quiet at which one was due, and nowhere else; and nothing happened behind silence, and behind the last read.
+-- A Tickle was written right behind each quiet at which one was due, and nowhere else; and nothing happened behind silence, behind the last read, and
+-- behind a frame that ends its link.
 abbrev pub Idles : ℕ → List Happening → Type 0
 Idles began [] = Unit {0}
 Idles began (received before now bytes ∷ all) = Idles began all × Rests began all

@@ -8,6 +8,8 @@ use Rattle.afp_outside.specs.ends.Whole.{SendsAll}
 use Rattle.dsi_frame.specs.Frame.{Frame, canonical_frame}
 use Rattle.afp_client.specs.session.Takes as S
 use Rattle.afp_client.specs.session.State.{Client, ClientState}
+use Rattle.afp_client.specs.declared.session.event.Event.{Event}
+use Rattle.afp_client.specs.declared.session.event.Event.TheVariants as events
 use Rattle.afp_outside.specs.ends.Dialer.{DialerState, TakesBack}
 use Rattle.afp_client.specs.links.History.{Happening, asks, close_session_frame, took}
 use Rattle.afp_client.specs.links.OnLink.{Start, Spot, spot, LiveOn}
@@ -54,11 +56,11 @@ pub record EndsOnLink {L : Type 0} (state : L → LinkState) (turns : ℕ) (firs
 abbrev pub EndsTalk : {L : Type 0} → (L → LinkState) → ℕ → Start → DialerState L → List (Part L) → List Happening → TalkEnd → ℕ → DialerState L → Type 0
 EndsTalk state turns first old past all end cost new = LeavesNone state turns first old past all end cost new ⊎ EndsOnLink state turns first old past all end new
 
--- one frame more was taken
-abbrev pub IsBehind : List Happening → List Happening → Type 0
-IsBehind before now = (mid : ClientState) × (frame : Frame) × (st : S.Step) × (now ≡ took mid frame st ∷ before)
+-- one frame more was taken, which was this event
+abbrev pub IsBehind : Event → List Happening → List Happening → Type 0
+IsBehind event before now = (mid : ClientState) × (frame : Frame) × (st : S.Step) × (now ≡ took mid frame st ∷ before) × (st.event ≡ event)
 
--- The call was told this, over the links that are now, by a frame from this place of the newest on.
+-- The call was told this, over the links that are now, by the frame that was taken last: it begins at this place of the newest.
 pub record TellsCall {L : Type 0} (state : L → LinkState) (first : Start) (old : DialerState L) (past : List (Part L)) (all : List Happening) (call : Call)
     (at : ℕ) (c : Code) (block : List ℕ) (here : Spot) (idle : ℕ) (new : DialerState L) : Type 0 where
   pub later : List (Part L)
@@ -67,7 +69,7 @@ pub record TellsCall {L : Type 0} (state : L → LinkState) (first : Start) (old
   pub results : (was : Option Call) → all_results was later now ≡ all_results was past all ++ record { call = call; code = c; block = block } ∷ []
   pub limits : (was : List Limit) → all_limits was later now ≡ all_limits was past all
   pub before : List Happening
-  pub behind : IsBehind before now
+  pub behind : IsBehind (events.Told c block) before now
   pub stands : StandsAt before at
 
 -- It got no result: the links ended behind the call's request; or there was no memory for it, and it was not written.
