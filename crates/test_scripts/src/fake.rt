@@ -1,5 +1,5 @@
 //! Whoever asks, over answers that are given beforehand.
-ghost use Rattle.std.specs.Prelude.{◌≡◌, [], ◌∷◌, ◌++◌, length};
+ghost use Rattle.std.specs.Prelude.{◌≡◌, ◌<◌, [], ◌∷◌, ◌++◌, OnOk, length};
 ghost use Rattle.afp_calls_grammar.specs.grammar.Call.{IsSpellable};
 ghost use Rattle.test_scripts.specs.Exchanged.{zipped};
 
@@ -69,6 +69,7 @@ pub struct Fake {
     given: Vec<Given>,
     asked: String,
     exchanges: Exchanges,
+    unanswered: Notes<Call<'static>>,
 }
 
 /// Appends a request, and gives its block.
@@ -96,6 +97,38 @@ fn reply_of(alloc: Global, request: &[u8], given: &Given) -> Result<Reply, FakeE
     }
 }
 
+/// The next answer, to this call.
+fn next_answer(
+    alloc: Global,
+    asked: &mut String,
+    given: &mut Vec<Given>,
+    call: &Call,
+) -> Result<Answer, FakeEnd>
+    requires { IsSpellable call.now }
+    ensures { OnOk result (length given.new.items < length given.old.items) }
+{
+    let Ok(request) = put_request(alloc, asked, call) else {
+        return Err(FakeEnd::Memory);
+    };
+    let Some(next) = given.pop() else {
+        return Err(FakeEnd::NoMore);
+    };
+    match reply_of(alloc, request.as_slice(), &next) {
+        Ok(reply) => Ok(Answer {
+            code: next.code,
+            reply,
+        }),
+        Err(end) => Err(end),
+    }
+}
+
+/// Notes one more call that got no answer.
+fn note_unanswered(unanswered: &mut Notes<Call<'static>>, call: &Call)
+    ensures { unanswered.new.items ≡ unanswered.old.items ++ call.now ∷ [] }
+{
+    *unanswered = unanswered.and(call);
+}
+
 impl Fake {
     pub fn new(alloc: Global, given: Vec<Given>) -> Fake {
         Fake {
@@ -103,6 +136,7 @@ impl Fake {
             given,
             asked: String::new(alloc),
             exchanges: Exchanges::new(),
+            unanswered: Notes::new(),
         }
     }
 
@@ -120,27 +154,20 @@ impl Asker for Fake {
 
     type Fixed = ();
 
-    ghost exchanges = { λ f. record { fixed = tt; exchanges = zipped f.exchanges.calls.items f.exchanges.answers.items } };
+    ghost exchanges = { λ f. record { fixed = tt; exchanges = zipped f.exchanges.calls.items f.exchanges.answers.items; unanswered = f.unanswered.items } };
 
     ghost left = { λ f. length f.given.items };
 
     fn ask(&mut self, call: &Call) -> Result<Answer, FakeEnd> {
-        let Ok(request) = put_request(self.alloc, &mut self.asked, call) else {
-            return Err(FakeEnd::Memory);
-        };
-        let Some(given) = self.given.pop() else {
-            return Err(FakeEnd::NoMore);
-        };
-        match reply_of(self.alloc, request.as_slice(), &given) {
-            Ok(reply) => {
-                let answer = Answer {
-                    code: given.code,
-                    reply,
-                };
+        match next_answer(self.alloc, &mut self.asked, &mut self.given, call) {
+            Ok(answer) => {
                 self.exchanges = self.exchanges.and(call, &answer);
                 Ok(answer)
             }
-            Err(end) => Err(end),
+            Err(end) => {
+                note_unanswered(&mut self.unanswered, call);
+                Err(end)
+            }
         }
     }
 }

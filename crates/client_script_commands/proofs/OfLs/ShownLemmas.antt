@@ -8,15 +8,13 @@ use Rattle.afp_replies.specs.declared.list.ListEntry.{ListEntry}
 use Rattle.client_script_commands.specs.declared.parts.asker.Answer.{Answer}
 use Rattle.client_script_commands.specs.declared.parts.asker.Stop.{Stop}
 use Rattle.client_script_commands.specs.declared.parts.asker.Stop.TheVariants as stops
-use Rattle.client_script_commands.specs.parts.Parts.{Asked, Comes, Exchange, Part, bad, refuses, with_more}
+use Rattle.client_script_commands.specs.parts.Parts.{Asked, Comes, Exchange, Lacks, Part, Runs, bad, refuses, with_more, with_unanswered}
 use Rattle.client_script_commands.specs.ls.Ls.{IsSaid, entries_told, lines_told, rows_in, rows_text}
 use Rattle.client_script_commands.specs.ls.lemma.Listing.{PutsList, Shows, ShowsAt}
 
-with-none : {F : Type 0} (before : Asked F) → before ≡ with_more before []
-with-none {F} before = ap {B = Asked F} (λ (xs : List Exchange). record { fixed = before.fixed; exchanges = xs }) (sym (append-nil before.exchanges))
-
-more-more : {F : Type 0} (before : Asked F) (xs ys : List Exchange) → with_more (with_more before xs) ys ≡ with_more before (xs ++ ys)
-more-more {F} before xs ys = ap {B = Asked F} (λ (zs : List Exchange). record { fixed = before.fixed; exchanges = zs }) (append_assoc before.exchanges xs ys)
+-- the exchanges of a log that has more of them
+log-more : {F : Type 0} (before mid : Asked F) (xs : List Exchange) → mid ≡ with_more before xs → mid.exchanges ≡ before.exchanges ++ xs
+log-more {F} before mid xs log = ap (λ (a : Asked F). a.exchanges) log
 
 cancel : {A : Type 0} (ys xs zs : List A) → ys ++ xs ≡ ys ++ zs → xs ≡ zs
 cancel [] xs zs e = e
@@ -36,7 +34,7 @@ shows-one : {F : Type 0} (call : Call) (before : Asked F) (answer : Answer) (mid
     → lines_told answer.code (rows_in answer.reply) ≡ lines → now ≡ text ++ lines → Shows before text now mid
 shows-one call before answer mid text now lines log told put = (
   (record { call = call; answer = answer }) ∷ [],
-  log,
+  log-more before mid ((record { call = call; answer = answer }) ∷ []) log,
   put ∙ ap (λ (t : List ℕ). text ++ t) (sym told ∙ sym (append-nil (lines_told answer.code (rows_in answer.reply)))),
 )
 
@@ -81,44 +79,48 @@ pub shows_end : {F : Type 0} (call : Call) (before : Asked F) (answer : Answer) 
     → answer.code ≡ code.ObjectNotFound → Shows before text text mid
 shows_end call before answer mid text log ended = shows_refused call before answer mid text log (not-ok answer.code ended)
 
-shows-none : {F : Type 0} (before mid : Asked F) (text : List ℕ) → mid ≡ before → Shows before text text mid
-shows-none before mid text same = ([], same ∙ with-none before, sym (append-nil text))
+shows-none : {F : Type 0} (before mid : Asked F) (call : Call) (text : List ℕ) → mid ≡ with_unanswered before call → Shows before text text mid
+shows-none {F} before mid call text same = ([], ap (λ (a : Asked F). a.exchanges) same ∙ sym (append-nil before.exchanges), sym (append-nil text))
 
 -- a list got no answer
-pub shows_stop : {E F : Type 0} (before mid : Asked F) (text : List ℕ) (stop : Stop E) → mid ≡ before → ShowsAt before text stop text mid
-shows_stop before mid text (stops.Refused c) same = shows-none before mid text same
-shows_stop before mid text (stops.Ended end) same = shows-none before mid text same
-shows_stop before mid text stops.BadReply same = shows-none before mid text same
-shows_stop before mid text stops.Memory same = tt
+pub shows_stop : {E F : Type 0} (before mid : Asked F) (call : Call) (text : List ℕ) (stop : Stop E) → mid ≡ with_unanswered before call → ShowsAt before text stop text mid
+shows_stop before mid call text (stops.Refused c) same = shows-none before mid call text same
+shows_stop before mid call text (stops.Ended end) same = shows-none before mid call text same
+shows_stop before mid call text stops.BadReply same = shows-none before mid call text same
+shows_stop before mid call text stops.Memory same = tt
 
 -- nothing was listed yet
 pub shows_start : {F : Type 0} (before : Asked F) (text : List ℕ) → text ≡ [] → Shows before [] text before
-shows_start before text none = ([], with-none before, none)
+shows_start before text none = ([], sym (append-nil before.exchanges), none)
 
 -- lists behind those before them
 pub shows_both : {F : Type 0} (before mid after : Asked F) (text now next : List ℕ) → Shows before text now mid → Shows mid now next after → Shows before text next after
 shows_both before mid after text now next a b = (
   a.0 ++ b.0,
-  b.1 ∙ (ap (λ (log : Asked _). with_more log b.0) a.1 ∙ more-more before a.0 b.0),
+  b.1 ∙ ap (λ (xs : List Exchange). xs ++ b.0) a.1 ∙ append_assoc before.exchanges a.0 b.0,
   b.2 ∙ ap (λ (t : List ℕ). t ++ entries_told b.0) a.2 ∙ append_assoc text (entries_told a.0) (entries_told b.0) ∙ ap (λ (t : List ℕ). text ++ t) (sym (entries-both a.0 b.0)),
 )
 
 -- by whatever exchanges
-said-by : {F : Type 0} (before after : Asked F) (text old new : List ℕ) → Shows before [] text after → new ≡ old ++ text → (exchanges : List Exchange) → after ≡ with_more before exchanges → new ≡ old ++ entries_told exchanges
+said-by : {F : Type 0} (before after : Asked F) (text old new : List ℕ) → Shows before [] text after → new ≡ old ++ text → (exchanges : List Exchange) → after.exchanges ≡ before.exchanges ++ exchanges → new ≡ old ++ entries_told exchanges
 said-by {F} before after text old new s put exchanges log =
-    put ∙ ap (λ (t : List ℕ). old ++ t) (s.2 ∙ ap (λ (xs : List Exchange). entries_told xs) (cancel before.exchanges s.0 exchanges (ap (λ (a : Asked F). a.exchanges) (sym s.1 ∙ log))))
+    put ∙ ap (λ (t : List ℕ). old ++ t) (s.2 ∙ ap (λ (xs : List Exchange). entries_told xs) (cancel before.exchanges s.0 exchanges (sym s.1 ∙ log)))
 
 pub is_said : {E F : Type 0} (before mid after : Asked F) (now next old new : List ℕ) (stop : Stop E) → Shows before [] now mid → ShowsAt mid now stop next after → new ≡ old ++ next
     → IsSaid {E = E} entries_told before old (Err stop) new after
-is_said before mid after now next old new (stops.Refused c) s t put short = absurd short
+is_said before mid after now next old new (stops.Refused c) s t put short = said-by before after next old new (shows_both before mid after [] now next s t) put
 is_said before mid after now next old new (stops.Ended end) s t put short = said-by before after next old new (shows_both before mid after [] now next s t) put
 is_said before mid after now next old new stops.BadReply s t put short = said-by before after next old new (shows_both before mid after [] now next s t) put
 is_said before mid after now next old new stops.Memory s t put short = absurd short
 
+lacks-all : {F : Type 0} (before : Asked F) (part left : Part) (after : Asked F) → Runs before part left after → Lacks before part after
+lacks-all before part left after r = record { left = left; mid = after; runs = r; fixed = refl; exchanges = refl }
+
 -- there was no memory for what was said
 pub comes_lack : {E F : Type 0} (before : Asked F) (part : Part) (stop : Stop E) (after : Asked F) → Comes before part (Err stop) after → Comes {E = E} before part (Err stops.Memory) after
 unfolding Comes
-comes_lack before part (stops.Refused c) after r = (refuses c, r)
-comes_lack before part (stops.Ended end) after w = (w.left, w.runs)
-comes_lack before part stops.BadReply after r = (bad, r)
+comes_lack before part (stops.Refused c) after r = lacks-all before part (refuses c) after r
+comes_lack before part (stops.Ended end) after w =
+    record { left = w.left; mid = w.mid; runs = w.runs; fixed = ap (λ (a : Asked _). a.fixed) w.waits; exchanges = ap (λ (a : Asked _). a.exchanges) w.waits }
+comes_lack before part stops.BadReply after r = lacks-all before part bad after r
 comes_lack before part stops.Memory after r = r

@@ -10,18 +10,18 @@ use Rattle.client_script_lines.specs.calls.Requests.{close_fork}
 use Rattle.client_script_commands.specs.declared.parts.asker.Answer.{Answer}
 use Rattle.client_script_commands.specs.declared.parts.asker.Stop.{Stop}
 use Rattle.client_script_commands.specs.declared.parts.asker.Stop.TheVariants as stops
-use Rattle.client_script_commands.specs.parts.Parts.{Asked, with_more, asks, ask, bad, by_code, closes_refused, done, if_ok, in_fork, must, must_do, must_tell, needs, refuses, Part, Exchange, Runs, Comes}
+use Rattle.client_script_commands.specs.parts.Parts.{Asked, Lacks, with_more, with_unanswered, asks, ask, bad, by_code, closes_refused, done, if_ok, in_fork, must, must_do, must_tell, needs, refuses, Part, Exchange, Runs, Comes}
 use Rattle.client_script_commands.specs.parts.Told.{Carries}
 
 with-none : {F : Type 0} (before : Asked F) → before ≡ with_more before []
-with-none {F} before = ap {B = Asked F} (λ (xs : List Exchange). record { fixed = before.fixed; exchanges = xs }) (sym (append-nil before.exchanges))
+with-none {F} before = ap {B = Asked F} (λ (xs : List Exchange). record before { exchanges = xs }) (sym (append-nil before.exchanges))
 
 -- nothing was asked, and the part is this
 pub runs_none : {F : Type 0} (before : Asked F) (part : Part) → Runs before part part before
 runs_none before part = record { exchanges = []; log = with-none before; leads = λ answers. refl }
 
 more-more : {F : Type 0} (before : Asked F) (xs ys : List Exchange) → with_more (with_more before xs) ys ≡ with_more before (xs ++ ys)
-more-more {F} before xs ys = ap {B = Asked F} (λ (zs : List Exchange). record { fixed = before.fixed; exchanges = zs }) (append_assoc before.exchanges xs ys)
+more-more {F} before xs ys = ap {B = Asked F} (λ (zs : List Exchange). record before { exchanges = zs }) (append_assoc before.exchanges xs ys)
 
 -- a call was answered, and the rest of the part goes on from there
 runs_more : {F : Type 0} (before : Asked F) (part : Part) (x : Exchange) (left : Part) (mid final : Asked F) → part [] ≡ asks x.call → mid ≡ with_more before (x ∷ [])
@@ -37,9 +37,11 @@ comes_more : {E F : Type 0} → (before : Asked F) (part : Part) (x : Exchange) 
 unfolding Comes
 comes_more before part x (Ok text) mid final h e r = runs_more before part x (done text) mid final h e r
 comes_more before part x (Err (stops.Refused c)) mid final h e r = runs_more before part x (refuses c) mid final h e r
-comes_more before part x (Err (stops.Ended end)) mid final h e r = record { call = r.call; left = r.left; next = r.next; runs = runs_more before part x r.left mid final h e r.runs }
+comes_more before part x (Err (stops.Ended end)) mid final h e r =
+    record { call = r.call; left = r.left; next = r.next; mid = r.mid; runs = runs_more before part x r.left mid r.mid h e r.runs; waits = r.waits }
 comes_more before part x (Err stops.BadReply) mid final h e r = runs_more before part x bad mid final h e r
-comes_more before part x (Err stops.Memory) mid final h e r = (r.0, runs_more before part x r.0 mid final h e r.1)
+comes_more before part x (Err stops.Memory) mid final h e r =
+    record { left = r.left; mid = r.mid; runs = runs_more before part x r.left mid r.mid h e r.runs; fixed = r.fixed; exchanges = r.exchanges }
 
 -- a call was answered
 pub ask_told : {E F : Type 0} → (call : Call) (before : Asked F) (answer : Answer) (mid : Asked F) → mid ≡ with_more before ((record { call = call; answer = answer }) ∷ [])
@@ -47,26 +49,26 @@ pub ask_told : {E F : Type 0} → (call : Call) (before : Asked F) (answer : Ans
 unfolding ask
 ask_told call before answer mid e next result final h = comes_more before (ask call next) (record { call = call; answer = answer }) result mid final refl e h
 
--- a call waits for its answer
-pub ask_waits : {E F : Type 0} → (call : Call) (before : Asked F) (end : E) (mid : Asked F) → mid ≡ before → (next : Answer → Part) → Comes before (ask call next) (Err (stops.Ended end)) mid
+-- a call got no answer
+pub ask_waits : {E F : Type 0} → (call : Call) (before : Asked F) (end : E) (mid : Asked F) → mid ≡ with_unanswered before call → (next : Answer → Part) → Comes before (ask call next) (Err (stops.Ended end)) mid
 unfolding ask Comes
 ask_waits call before end mid e next =
-    record { call = call; left = ask call next; next = refl; runs = record { exchanges = []; log = e ∙ with-none before; leads = λ answers. refl } }
+    record { call = call; left = ask call next; next = refl; mid = before; runs = runs_none before (ask call next); waits = e }
 
 -- the same, of any part that asks the call
 pub any_told : {E F : Type 0} → (call : Call) (before : Asked F) (answer : Answer) (mid : Asked F) → mid ≡ with_more before ((record { call = call; answer = answer }) ∷ [])
     → (part : Part) → part [] ≡ asks call → Carries E before part mid (λ answers. part (answer ∷ answers))
 any_told call before answer mid e part asked result final h = comes_more before part (record { call = call; answer = answer }) result mid final asked e h
 
-pub any_waits : {E F : Type 0} → (call : Call) (before : Asked F) (end : E) (mid : Asked F) → mid ≡ before → (part : Part) → part [] ≡ asks call → Comes before part (Err (stops.Ended end)) mid
+pub any_waits : {E F : Type 0} → (call : Call) (before : Asked F) (end : E) (mid : Asked F) → mid ≡ with_unanswered before call → (part : Part) → part [] ≡ asks call → Comes before part (Err (stops.Ended end)) mid
 unfolding Comes
 any_waits call before end mid e part asked =
-    record { call = call; left = part; next = asked; runs = record { exchanges = []; log = e ∙ with-none before; leads = λ answers. refl } }
+    record { call = call; left = part; next = asked; mid = before; runs = runs_none before part; waits = e }
 
 -- how parts end
 pub comes_memory : (E : Type 0) {F : Type 0} → (before : Asked F) (part : Part) → Comes {E = E} before part (Err stops.Memory) before
 unfolding Comes
-comes_memory E before part = (part, runs_none before part)
+comes_memory E before part = record { left = part; mid = before; runs = runs_none before part; fixed = refl; exchanges = refl }
 
 pub comes_done : (E : Type 0) {F : Type 0} → (before : Asked F) (text : List ℕ) → Comes {E = E} before (done text) (Ok text) before
 unfolding Comes

@@ -12,7 +12,7 @@ use Rattle.client_script_lines.specs.calls.Requests.{list}
 use Rattle.client_script_lines.specs.texts.Texts.{entry_line, error_text, numbered}
 use Rattle.client_script_commands.specs.declared.parts.asker.Stop.{Stop}
 use Rattle.client_script_commands.specs.declared.parts.asker.Stop.TheVariants as stops
-use Rattle.client_script_commands.specs.parts.Parts.{Asked, Exchange, Next, asks, bad_reply, Part, done, with_more}
+use Rattle.client_script_commands.specs.parts.Parts.{Asked, Exchange, Next, asks, bad_reply, Part, done}
 
 -- the entries of a list
 abbrev pub rows_in : Reply → Option (List ListEntry)
@@ -68,12 +68,13 @@ abbrev pub entries_told : List Exchange → List ℕ
 entries_told [] = []
 entries_told (x ∷ exchanges) = lines_told x.answer.code (rows_in x.answer.reply) ++ entries_told exchanges
 
--- a part stops in its middle: a call got no answer, or the last reply is none that may come
+-- a part stops in its middle: a call was refused or got no answer, or the last reply is none that may come
 abbrev pub StopsShort : {E : Type 0} → Result (List ℕ) (Stop E) → Type 0
+StopsShort (Err (stops.Refused c)) = Unit {0}
 StopsShort (Err (stops.Ended end)) = Unit {0}
 StopsShort (Err stops.BadReply) = Unit {0}
 StopsShort result = ⊥
 
 -- What a part said, by the exchanges of its calls, stands behind what stood there, where the part stops in its middle.
 abbrev pub IsSaid : {E F : Type 0} → (List Exchange → List ℕ) → Asked F → List ℕ → Result (List ℕ) (Stop E) → List ℕ → Asked F → Type 0
-IsSaid told before old result new after = StopsShort result → (exchanges : List Exchange) → after ≡ with_more before exchanges → new ≡ old ++ told exchanges
+IsSaid told before old result new after = StopsShort result → (exchanges : List Exchange) → after.exchanges ≡ before.exchanges ++ exchanges → new ≡ old ++ told exchanges

@@ -77,14 +77,19 @@ pub record Exchange : Type 0 where
   pub call : Call
   pub answer : Answer
 
--- The exchanges so far of whoever asks, and what stays the same of it.
+-- The exchanges so far of whoever asks, what stays the same of it, and the calls that were asked and got no answer.
 pub record Asked (F : Type 0) : Type 0 where
   pub fixed : F
   pub exchanges : List Exchange
+  pub unanswered : List Call
 
--- with more of them
+-- with more exchanges
 abbrev pub with_more : {F : Type 0} → Asked F → List Exchange → Asked F
-with_more before more = record { fixed = before.fixed; exchanges = before.exchanges ++ more }
+with_more before more = record before { exchanges = before.exchanges ++ more }
+
+-- with one more call that got no answer
+abbrev pub with_unanswered : {F : Type 0} → Asked F → Call → Asked F
+with_unanswered before call = record before { unanswered = before.unanswered ++ call ∷ [] }
 
 -- The part asks the calls of these exchanges, one after the other, and what is left of it behind their answers is this.
 abbrev pub Leads : Part → List Exchange → Part → Type 0
@@ -97,22 +102,32 @@ pub record Runs {F : Type 0} (before : Asked F) (part left : Part) (after : Aske
   pub log : after ≡ with_more before exchanges
   pub leads : Leads part exchanges left
 
--- A call of the part waits for its answer.
+-- A call of the part got no answer, behind these exchanges.
 pub record Waits {F : Type 0} (before : Asked F) (part : Part) (after : Asked F) : Type 0 where
   pub call : Call
   pub left : Part
   pub next : left [] ≡ asks call
-  pub runs : Runs before part left after
+  pub mid : Asked F
+  pub runs : Runs before part left mid
+  pub waits : after ≡ with_unanswered mid call
+
+-- The exchanges of the part, where there was no memory behind them; whether a call got no answer then is not told.
+pub record Lacks {F : Type 0} (before : Asked F) (part : Part) (after : Asked F) : Type 0 where
+  pub left : Part
+  pub mid : Asked F
+  pub runs : Runs before part left mid
+  pub fixed : after.fixed ≡ mid.fixed
+  pub exchanges : after.exchanges ≡ mid.exchanges
 
 -- what asking a call does to the log
 abbrev pub AsksCall : {E F : Type 0} → Call → Asked F → Result Answer E → Asked F → Type 0
 AsksCall call before (Ok answer) after = after ≡ with_more before ((record { call = call; answer = answer }) ∷ [])
-AsksCall call before (Err end) after = after ≡ before
+AsksCall call before (Err end) after = after ≡ with_unanswered before call
 
--- A part comes to this: it prints a line; it is refused; a call waits for its answer; the last reply may not come; or there was no memory.
+-- A part comes to this: it prints a line; it is refused; a call got no answer; the last reply may not come; or there was no memory.
 unfoldable pub Comes : {E F : Type 0} → Asked F → Part → Result (List ℕ) (Stop E) → Asked F → Type 0
 Comes before part (Ok text) after = Runs before part (done text) after
 Comes before part (Err (stops.Refused c)) after = Runs before part (refuses c) after
 Comes before part (Err (stops.Ended end)) after = Waits before part after
 Comes before part (Err stops.BadReply) after = Runs before part bad after
-Comes before part (Err stops.Memory) after = (left : Part) × Runs before part left after
+Comes before part (Err stops.Memory) after = Lacks before part after

@@ -156,6 +156,7 @@ pub fn ls<A: Asker>(
     requires { IsPlace path.now }
     ensures comes { Comes (A.exchanges asker.old) (ls volume path.now) result (A.exchanges asker.new) }
     ensures said { IsSaid entries_told (A.exchanges asker.old) said.old result said.new (A.exchanges asker.new) }
+    ensures silent { OnOk result (said.new ≡ said.old) }
 {
     parts_end::<A>();
     let mut text = Bytes::new(alloc);

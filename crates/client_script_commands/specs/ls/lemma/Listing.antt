@@ -7,16 +7,16 @@ use Rattle.client_script_lines.specs.texts.Texts.{error_text, numbered}
 use Rattle.client_script_commands.specs.declared.parts.asker.Answer.{Answer}
 use Rattle.client_script_commands.specs.declared.parts.asker.Stop.{Stop}
 use Rattle.client_script_commands.specs.declared.parts.asker.Stop.TheVariants as stops
-use Rattle.client_script_commands.specs.parts.Parts.{Asked, Comes, Exchange, done, with_more}
+use Rattle.client_script_commands.specs.parts.Parts.{Asked, Comes, Exchange, done, with_more, with_unanswered}
 use Rattle.client_script_commands.specs.parts.Told.{Carries}
 use Rattle.client_script_commands.specs.declared.ls.ls.Page.{Page}
 use Rattle.client_script_commands.specs.declared.ls.ls.Page.TheVariants.{Listed, Ended, Refused}
 use Rattle.client_script_commands.specs.ls.Ls.{entries_told, lists, lists_behind, rows_text}
 
--- a call was answered, and is logged with its answer; or it was not, and nothing is
+-- a call was answered, and is logged with its answer; or it was not, and is logged so
 abbrev pub Logs : {E F : Type 0} → Call → Asked F → Result Answer (Stop E) → Asked F → Type 0
 Logs call before (Ok answer) after = after ≡ with_more before ((record { call = call; answer = answer }) ∷ [])
-Logs call before (Err stop) after = after ≡ before
+Logs call before (Err stop) after = after ≡ with_unanswered before call
 
 -- the lines of a list's entries were appended, and it has so many; or there is no list, and nothing was
 abbrev pub PutsList : Option (List ListEntry) → List ℕ → List ℕ → Option ℕ → Type 0
@@ -38,7 +38,7 @@ ListsOnce volume path count text before (Err stop) count_now now after = Comes b
 
 -- Behind these answers the text has, behind what it had, the lines of the entries that they tell.
 abbrev pub Shows : {F : Type 0} → Asked F → List ℕ → List ℕ → Asked F → Type 0
-Shows before text now after = (exchanges : List Exchange) × (after ≡ with_more before exchanges) × (now ≡ text ++ entries_told exchanges)
+Shows before text now after = (exchanges : List Exchange) × (after.exchanges ≡ before.exchanges ++ exchanges) × (now ≡ text ++ entries_told exchanges)
 
 -- the same where there is no more to list, but for want of memory
 abbrev pub ShowsAt : {E F : Type 0} → Asked F → List ℕ → Stop E → List ℕ → Asked F → Type 0

@@ -36,4 +36,4 @@ returns-in_default g c = record {
 
 pub returns-in-Err-ask_list-clause-shows : goal.returns-in-Err-ask_list-clause-shows
 returns-in-Err-ask_list-clause-shows g c =
-    shows_stop (g.A.Asker.exchanges c.args.asker.now) (g.A.Asker.exchanges c.ask_list.new.asker) c.args.text.now c.in-Err-ask_list.stop c.in-Err-ask_list.ensures.log
+    shows_stop (g.A.Asker.exchanges c.args.asker.now) (g.A.Asker.exchanges c.ask_list.new.asker) c.in-Ok.call c.args.text.now c.in-Err-ask_list.stop c.in-Err-ask_list.ensures.log
