@@ -3,6 +3,9 @@ use Rattle.std.proofs.Common.{◌≡◌, ℕ, ◌+◌, ◌<◌, ◌≤◌, ◌^�
 use Rattle.std.specs.Prelude.{IsSome}
 use Rattle.afp_calls_grammar.specs.declared.grammar.call.Call.{Call}
 use Rattle.afp_calls_grammar.specs.declared.grammar.call.Call.TheVariants as calls
+use Rattle.afp_base.specs.declared.code.Code.{Code}
+use Rattle.afp_client.specs.declared.session.event.Event.{Event}
+use Rattle.afp_client.specs.declared.session.event.Event.TheVariants as events
 use Rattle.afp_client.specs.session.Run.{Result as CallResult}
 use Rattle.afp_client.specs.session.State.{Client, ClientState, IsReady, is_of_opening}
 use Rattle.afp_outside.specs.ends.Dialer.{DialerState}
@@ -43,8 +46,8 @@ read-more (y ∷ xs) [] x r h i = absurd h
 read-more (y ∷ xs) (s ∷ rs) x r h i = (h.0, read-more xs rs x r h.1 i)
 
 -- no limit was set behind a frame that was taken last
-still-behind : (before all : List Happening) → IsBehind before all → IsBehind before (before_limits all)
-still-behind before all b = (b.0, b.1, b.2, ap before_limits b.3)
+still-behind : (event : Event) (before all : List Happening) → IsBehind event before all → IsBehind event before (before_limits all)
+still-behind event before all b = (b.0, b.1, b.2, ap before_limits b.3, b.4)
 
 -- a limit takes no frame
 told-limited : (xs : List Exchange) (all : List Happening) (l : Limit) (place : ℕ) → ToldAt xs all place → ToldAt xs (limited l ∷ all) place
@@ -52,9 +55,9 @@ told-limited [] all l place h = h
 told-limited (x ∷ xs) all l place h = h
 
 -- the frame of one more
-told-more : (xs : List Exchange) (x : Exchange) (all before : List Happening) (place : ℕ) → IsBehind before all → StandsAt before place → ToldAt (xs ++ x ∷ []) all place
-told-more [] x all before place behind stands = (before, still-behind before all behind, stands)
-told-more (y ∷ xs) x all before place behind stands = (before, still-behind before all behind, stands)
+told-more : (xs : List Exchange) (x : Exchange) (all before : List Happening) (c : Code) (block : List ℕ) (place : ℕ) → IsBehind (events.Told c block) before all → StandsAt before place → ToldAt (xs ++ x ∷ []) all place
+told-more [] x all before c block place behind stands = (c, block, before, still-behind (events.Told c block) before all behind, stands)
+told-more (y ∷ xs) x all before c block place behind stands = (c, block, before, still-behind (events.Told c block) before all behind, stands)
 
 -- the last limit is the one that holds
 allowed-more : (most : ℕ) (limits : List Limit) (l : Limit) → allowed_by most (limits ++ l ∷ []) ≡ l.turns
@@ -80,7 +83,7 @@ told-on : {L : Type 0} (state : L → LinkState) (turns : ℕ) (first : Start) (
     × (all_results None later now ≡ all_results None past all ++ record { call = call; code = told.code; block = told.block } ∷ [])
     × ((xs : List Exchange) (x : Exchange) → ToldAt (xs ++ x ∷ []) now told.at) × (all_limits first.limits later now ≡ all_limits first.limits past all)
 told-on state turns first old past all s call told (Some link) core noted idle cost dialer t =
-    (t.later, t.now, t.over, t.results None, λ xs x. told-more xs x t.now t.before told.at t.behind t.stands, t.limits first.limits)
+    (t.later, t.now, t.over, t.results None, λ xs x. told-more xs x t.now t.before told.code told.block told.at t.behind t.stands, t.limits first.limits)
 told-on state turns first old past all s call told None core noted idle cost dialer t = absurd t
 
 -- an answer was read
@@ -112,16 +115,21 @@ stays-open state first old limits turns exchanges after call answer told link co
       within = t.within;
     }
 
+-- the first call that got no answer
+first-unanswered : (before after : List Call) (call : Call) → before ≡ [] → after ≡ before ++ call ∷ [] → after ≡ call ∷ []
+first-unanswered before after call none more = more ∙ ap (λ (cs : List Call). cs ++ call ∷ []) none
+
 -- no answer was read, and the link was left
 bad-told : {L : Type 0} (state : L → LinkState) (first : Start) (old : DialerState L) (limits : List Limit) (turns : ℕ) (exchanges : List Exchange) (call : Call) (told : Told) (link : Option L) (core : Client) (out : List ℕ) (size : ℕ)
     (noted : Noted) (idle cost : ℕ) (dialer new : DialerState L) (past : List (Part L)) (all : List Happening) (s : ClientState) (at : ℕ)
     → AsksTalk state turns first old past all s call (Ok told) link core noted idle cost dialer → (at ≡ told.at) × ((reply : Reply) → Shows reply (reply_kind call) told.code told.block → ⊥)
     → ((f : Start) (d : DialerState L) (p : List (Part L)) (h : List Happening) → TalkAt state f d p h link core noted idle cost dialer → LeavesOpen state f d p h new)
-    → TellsBad state first old past all at new
+    → TellsBad state first old past all call at new
 bad-told state first old limits turns exchanges call told (Some link) core out size noted idle cost dialer new past all s at t bad leaves = record {
   later = t.later;
   now = t.now;
   told = record { call = call; code = told.code; block = told.block };
+  call_is = refl;
   results = t.results None;
   limits = t.limits first.limits;
   bad = bad.1;
@@ -136,36 +144,45 @@ pub leaves-bad : {L : Type 0} (state : L → LinkState) (first : Start) (old : D
     (noted : Noted) (idle cost : ℕ) (dialer new : DialerState L)
     → TellsOn state first old limits turns exchanges call told link core out size noted idle cost dialer → AnswersBy call told (Err end) → after ≡ exchanges
     → ((f : Start) (d : DialerState L) (p : List (Part L)) (h : List Happening) → TalkAt state f d p h link core noted idle cost dialer → LeavesOpen state f d p h new)
-    → (spent : ℕ) → HasEnded state first old limits after end spent new
-leaves-bad state first old limits turns exchanges after call told (ends.BadReply at) link core out size noted idle cost dialer new t a is leaves spent = record {
+    → (before unanswered : List Call) → before ≡ [] → unanswered ≡ before ++ call ∷ [] → (spent : ℕ) → HasEnded state first old limits after unanswered end spent new
+leaves-bad state first old limits turns exchanges after call told (ends.BadReply at) link core out size noted idle cost dialer new t a is leaves before unanswered none more spent = record {
   past = t.past;
   all = t.all;
   read = subst (λ (xs : List Exchange). AreRead xs (all_results None t.past t.all)) (sym is) t.read;
   limits_are = t.limits_are;
+  call = call;
+  later = [];
+  at_call = first-unanswered before unanswered call none more;
   ends = bad-told state first old limits turns exchanges call told link core out size noted idle cost dialer new t.past t.all t.s at t.asks a leaves;
 }
-leaves-bad state first old limits turns exchanges after call told ends.Memory link core out size noted idle cost dialer new t a is leaves spent =
+leaves-bad state first old limits turns exchanges after call told ends.Memory link core out size noted idle cost dialer new t a is leaves before unanswered none more spent =
     let on = told-on state turns first old t.past t.all t.s call told link core noted idle cost dialer t.asks in
     record {
       past = t.past;
       all = t.all;
       read = subst (λ (xs : List Exchange). AreRead xs (all_results None t.past t.all)) (sym is) t.read;
       limits_are = t.limits_are;
+      call = call;
+      later = [];
+      at_call = first-unanswered before unanswered call none more;
       ends = record { later = on.0; now = on.1; limits_are = t.limits_are ∙ sym on.5; leaves = leaves first old on.0 on.1 on.2 };
     }
-leaves-bad state first old limits turns exchanges after call told (ends.Links end) link core out size noted idle cost dialer new t a is leaves spent = absurd a
+leaves-bad state first old limits turns exchanges after call told (ends.Links end) link core out size noted idle cost dialer new t a is leaves before unanswered none more spent = absurd a
 
 -- it is asked no more
 pub leaves-unasked : {L : Type 0} (state : L → LinkState) (first : Start) (old : DialerState L) (limits : List Limit) (turns : ℕ) (exchanges : List Exchange) (link : Option L) (core : Client) (out : List ℕ) (size : ℕ)
     (noted : Noted) (idle cost place : ℕ) (dialer new : DialerState L)
     → IsOpen state first old limits turns exchanges link core out size noted idle cost place dialer
     → ((f : Start) (d : DialerState L) (p : List (Part L)) (h : List Happening) → TalkAt state f d p h link core noted idle cost dialer → LeavesOpen state f d p h new)
-    → (spent : ℕ) → HasEnded state first old limits exchanges ends.Memory spent new
-leaves-unasked state first old limits turns exchanges link core out size noted idle cost place dialer new o leaves spent = record {
+    → (call : Call) (before unanswered : List Call) → before ≡ [] → unanswered ≡ before ++ call ∷ [] → (spent : ℕ) → HasEnded state first old limits exchanges unanswered ends.Memory spent new
+leaves-unasked state first old limits turns exchanges link core out size noted idle cost place dialer new o leaves call before unanswered none more spent = record {
   past = o.past;
   all = o.all;
   read = o.read;
   limits_are = o.limits_are;
+  call = call;
+  later = [];
+  at_call = first-unanswered before unanswered call none more;
   ends = record { later = o.past; now = o.all; limits_are = o.limits_are; leaves = leaves first old o.past o.all o.at };
 }
 
@@ -181,15 +198,18 @@ pub links-end : {L : Type 0} (state : L → LinkState) (first : Start) (old : Di
     → (o : IsOpen state first old limits turns exchanges link before out size was was_idle was_cost place dialer)
     → ((f : Start) (d : DialerState L) (p : List (Part L)) (h : List Happening) → turns ≡ allowed (all_limits f.limits p h) → TalkAt state f d p h link before was was_idle was_cost dialer
     → AsksTalk state turns f d p h before.state call (Err end) now core noted idle cost new)
-    → HasEnded state first old limits exchanges (ends.Links end) cost new
-links-end state first old limits turns exchanges link now before core out size was noted was_idle idle was_cost cost place dialer new call end o tells = record {
+    → (was_unanswered unanswered : List Call) → was_unanswered ≡ [] → unanswered ≡ was_unanswered ++ call ∷ []
+    → HasEnded state first old limits exchanges unanswered (ends.Links end) cost new
+links-end state first old limits turns exchanges link now before core out size was noted was_idle idle was_cost cost place dialer new call end o tells was_unanswered unanswered none more = record {
   past = o.past;
   all = o.all;
   read = o.read;
   limits_are = o.limits_are;
+  call = call;
+  later = [];
+  at_call = first-unanswered was_unanswered unanswered call none more;
   ends = (
     before.state,
-    call,
     subst (λ (n : ℕ). TellsEnd state n first old o.past o.all (asks before.state call) end cost new) (o.limit ∙ ap allowed (sym o.limits_are))
         (ended-on state turns first old o.past o.all before.state call end now core noted idle cost new (tells first old o.past o.all o.limit o.at)),
   );
@@ -231,11 +251,11 @@ opens-asker {L = L} state client value before told given turns first_turns limit
     }))
 
 -- while it has not ended
-pub stands-open : {L : Type 0} (state : L → LinkState) (first : Start) (old : DialerState L) (limits : List Limit) (turns : ℕ) (exchanges : List Exchange) (ended : Option AskEnd) (link : Option L) (core : Client) (out : List ℕ) (size : ℕ)
-    (noted : Noted) (idle cost place : ℕ) (dialer : DialerState L) → ended ≡ None → IsOpen state first old limits turns exchanges link core out size noted idle cost place dialer
-    → Stands state first old limits turns exchanges ended link core out size noted idle cost place dialer
-stands-open state first old limits turns exchanges ended link core out size noted idle cost place dialer none o =
-    subst (λ (e : Option AskEnd). Stands state first old limits turns exchanges e link core out size noted idle cost place dialer) (sym none) o
+pub stands-open : {L : Type 0} (state : L → LinkState) (first : Start) (old : DialerState L) (limits : List Limit) (turns : ℕ) (exchanges : List Exchange) (unanswered : List Call) (ended : Option AskEnd) (link : Option L) (core : Client) (out : List ℕ) (size : ℕ)
+    (noted : Noted) (idle cost place : ℕ) (dialer : DialerState L) → ended ≡ None → unanswered ≡ [] → IsOpen state first old limits turns exchanges link core out size noted idle cost place dialer
+    → Stands state first old limits turns exchanges unanswered ended link core out size noted idle cost place dialer
+stands-open state first old limits turns exchanges unanswered ended link core out size noted idle cost place dialer none answered o =
+    subst (λ (e : Option AskEnd). Stands state first old limits turns exchanges unanswered e link core out size noted idle cost place dialer) (sym none) (answered, o)
 
 -- another limit is set
 pub limits-open : {L : Type 0} (state : L → LinkState) (first : Start) (old : DialerState L) (limits now_limits : List Limit) (turns now : ℕ) (exchanges : List Exchange) (link : Option L) (core : Client) (out : List ℕ) (size : ℕ)

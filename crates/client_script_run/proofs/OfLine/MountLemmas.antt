@@ -23,14 +23,18 @@ cancel {A} (y ∷ ys) xs zs e = cancel ys xs zs (ap tail e) where
   tail [] = []
   tail (x ∷ rest) = rest
 
-more-is : {F : Type 0} (before : Asked F) (xs ys : List Exchange) → with_more before xs ≡ with_more before ys → xs ≡ ys
-more-is {F} before xs ys e = cancel before.exchanges xs ys (ap (λ (a : Asked F). a.exchanges) e)
+-- the exchanges of a log that has more of them
+log-more : {F : Type 0} (before after : Asked F) (xs : List Exchange) → after ≡ with_more before xs → after.exchanges ≡ before.exchanges ++ xs
+log-more {F} before after xs log = ap (λ (a : Asked F). a.exchanges) log
 
-none-more : {F : Type 0} (before : Asked F) (xs : List Exchange) → before ≡ with_more before xs → xs ≡ []
-none-more {F} before xs e = sym (cancel before.exchanges [] xs (append-nil before.exchanges ∙ ap (λ (a : Asked F). a.exchanges) e))
+more-is : {F : Type 0} (before after : Asked F) (xs ys : List Exchange) → after ≡ with_more before xs → after.exchanges ≡ before.exchanges ++ ys → xs ≡ ys
+more-is {F} before after xs ys log is = cancel before.exchanges xs ys (sym (log-more before after xs log) ∙ is)
+
+none-more : {F : Type 0} (before after : Asked F) (xs : List Exchange) → after.exchanges ≡ before.exchanges → after.exchanges ≡ before.exchanges ++ xs → xs ≡ []
+none-more {F} before after xs same is = sym (cancel before.exchanges [] xs (append-nil before.exchanges ∙ sym same ∙ is))
 
 with-none : {F : Type 0} (before : Asked F) → before ≡ with_more before []
-with-none {F} before = ap {B = Asked F} (λ (xs : List Exchange). record { fixed = before.fixed; exchanges = xs }) (sym (append-nil before.exchanges))
+with-none {F} before = ap {B = Asked F} (λ (xs : List Exchange). record before { exchanges = xs }) (sym (append-nil before.exchanges))
 
 err-ok : {A B : Type 0} (b : B) (a : A) → Err b ≡ Ok a → ⊥
 err-ok b a e = search rules
@@ -95,11 +99,16 @@ comes-told {E} name before after volume text t e = subst (λ (x : List ℕ). Run
 
 pub comes-lack : {E F : Type 0} (name : List ℕ) (before after : Asked F) (volume : VolumeId) → OpensVolume {E = E} name before (Ok volume) after → Comes {E = E} before (mount name) (Err stops.Memory) after
 unfolding Comes
-comes-lack {E} name before after volume t = (says volume, told-runs {E = E} name before after volume t)
+comes-lack {E} name before after volume t =
+    record { left = says volume; mid = after; runs = told-runs {E = E} name before after volume t; fixed = refl; exchanges = refl }
+
+-- nothing was asked
+unasked : {F : Type 0} (name : List ℕ) (before : Asked F) → Runs before (mount name) (mount name) before
+unasked name before = record { exchanges = []; log = with-none before; leads = λ answers. refl }
 
 pub comes-unasked : (E : Type 0) {F : Type 0} (name : List ℕ) (before : Asked F) → Comes {E = E} before (mount name) (Err stops.Memory) before
 unfolding Comes
-comes-unasked E name before = (mount name, record { exchanges = []; log = with-none before; leads = λ answers. refl })
+comes-unasked E name before = record { left = mount name; mid = before; runs = unasked name before; fixed = refl; exchanges = refl }
 
 pub comes-stop : {E F : Type 0} (name : List ℕ) (before after : Asked F) (stop : Stop E) → OpensVolume name before (Err stop) after → Comes before (mount name) (Err stop) after
 unfolding Comes
@@ -109,9 +118,17 @@ comes-stop name before after (stops.Ended end) t = record {
   call = open_volume name;
   left = mount name;
   next = mount-asks name;
-  runs = record { exchanges = []; log = t ∙ with-none before; leads = λ answers. refl };
+  mid = before;
+  runs = unasked name before;
+  waits = t;
 }
-comes-stop name before after stops.Memory t = (mount name, record { exchanges = []; log = t ∙ with-none before; leads = λ answers. refl })
+comes-stop name before after stops.Memory t = record {
+  left = mount name;
+  mid = before;
+  runs = unasked name before;
+  fixed = ap (λ (a : Asked _). a.fixed) t;
+  exchanges = ap (λ (a : Asked _). a.exchanges) t;
+}
 
 -- the volume that is mounted then
 volume-ok : (E : Type 0) (old : Option VolumeId) (c : Code) (found : Option VolumeId) (volume : VolumeId) → opened_by {E = E} c found ≡ Ok volume → Some volume ≡ volume_told old c found
@@ -131,21 +148,21 @@ pub mounts-told : {E F : Type 0} (word name : List ℕ) (before after : Asked F)
     → Mounts old (lines.Mount word) before after (Some volume)
 mounts-told {E} word name before after old volume t xs is =
     volume-ok E old t.answer.code (volume_in t.answer.reply) volume (sym t.is)
-    ∙ ap (λ (ys : List Exchange). volume_by old ys) (more-is before ((record { call = open_volume name; answer = t.answer }) ∷ []) xs (sym t.log ∙ is))
+    ∙ ap (λ (ys : List Exchange). volume_by old ys) (more-is before after ((record { call = open_volume name; answer = t.answer }) ∷ []) xs t.log is)
 
-mounts-none : {F : Type 0} (word : List ℕ) (before after : Asked F) (old : Option VolumeId) → after ≡ before → Mounts old (lines.Mount word) before after old
-mounts-none word before after old e xs is = sym (ap (λ (ys : List Exchange). volume_by old ys) (none-more before xs (sym e ∙ is)))
+mounts-none : {F : Type 0} (word : List ℕ) (before after : Asked F) (old : Option VolumeId) → after.exchanges ≡ before.exchanges → Mounts old (lines.Mount word) before after old
+mounts-none word before after old e xs is = sym (ap (λ (ys : List Exchange). volume_by old ys) (none-more before after xs e is))
 
 mounts-err : {E F : Type 0} (word name : List ℕ) (before after : Asked F) (old : Option VolumeId) (stop : Stop E) → IsTold name before (Err stop) after → Mounts old (lines.Mount word) before after old
 mounts-err {E} word name before after old stop t xs is =
     volume-err E old t.answer.code (volume_in t.answer.reply) stop (sym t.is)
-    ∙ ap (λ (ys : List Exchange). volume_by old ys) (more-is before ((record { call = open_volume name; answer = t.answer }) ∷ []) xs (sym t.log ∙ is))
+    ∙ ap (λ (ys : List Exchange). volume_by old ys) (more-is before after ((record { call = open_volume name; answer = t.answer }) ∷ []) xs t.log is)
 
 pub mounts-stop : {E F : Type 0} (word name : List ℕ) (before after : Asked F) (old : Option VolumeId) (stop : Stop E) → OpensVolume name before (Err stop) after → Mounts old (lines.Mount word) before after old
 mounts-stop word name before after old (stops.Refused c) t = mounts-err word name before after old (stops.Refused c) t
 mounts-stop word name before after old stops.BadReply t = mounts-err word name before after old stops.BadReply t
-mounts-stop word name before after old (stops.Ended end) t = mounts-none word before after old t
-mounts-stop word name before after old stops.Memory t = mounts-none word before after old t
+mounts-stop word name before after old (stops.Ended end) t = mounts-none word before after old (ap (λ (a : Asked _). a.exchanges) t)
+mounts-stop word name before after old stops.Memory t = mounts-none word before after old (ap (λ (a : Asked _). a.exchanges) t)
 
 pub mounts-unasked : {F : Type 0} (word : List ℕ) (before : Asked F) (old : Option VolumeId) → Mounts old (lines.Mount word) before before old
 mounts-unasked word before old = mounts-none word before before old refl

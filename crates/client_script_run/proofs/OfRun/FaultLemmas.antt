@@ -34,19 +34,19 @@ no-source (asks.Links talks.Memory) line e = absurd (cc e)
 no-source (asks.BadReply at) line e = absurd (cc e)
 no-source asks.Memory line e = absurd (cc e)
 
-fault-of : {L : Type 0} (state : L → LinkState) (turns : ℕ) (first : Start) (old : DialerState L) (start : SourceState) (text : List ℕ) (dialer : DialerState L) (source : SourceState) → Runs state turns first old start ends.ReadFault text dialer source
+fault-of : {L : Type 0} (state : L → LinkState) (turns : ℕ) (first : Start) (old : DialerState L) (start : SourceState) (text last : List ℕ) (dialer : DialerState L) (source : SourceState) → Runs state turns first old start ends.ReadFault text last dialer source
     → CountsOn 1 start.faults source.faults
-fault-of state turns first old start text dialer source (inl r) = no-source r.end 1 r.is
-fault-of state turns first old start text dialer source (inr r) =
+fault-of state turns first old start text last dialer source (inl r) = no-source r.end 1 r.is
+fault-of state turns first old start text last dialer source (inr r) =
     subst (λ (n : ℕ). CountsOn 1 n source.faults) (r.stops.fault.part.reads.faults ∙ source-faults turns start r.carried r.are) r.stops.fault.fault
 
 pub source-counted : {L : Type 0} (state : L → LinkState) (turns : ℕ) (login : Login) (old : DialerState L) (start : SourceState) (sink : SinkState) (end : ClientEnd) (dialer : DialerState L) (source : SourceState) (printed : SinkState)
     → RunsClient state turns login old start sink end dialer source printed → end ≡ ends.ReadFault → CountsOn 1 start.faults source.faults
 source-counted state turns login old start sink end dialer source printed r is =
-    let told = subst (λ (e : ClientEnd). PrintsWhole sink r.text r.why e printed) is r.prints in
-    fault-of state turns (first_of (first_client login) turns) old start r.text dialer source (subst (λ (e : ClientEnd). Runs state turns (first_of (first_client login) turns) old start e r.text dialer source) (sym told.0) r.runs)
+    let told = subst (λ (e : ClientEnd). PrintsWhole sink r.text r.last r.why e printed) is r.prints in
+    fault-of state turns (first_of (first_client login) turns) old start r.text r.last dialer source (subst (λ (e : ClientEnd). Runs state turns (first_of (first_client login) turns) old start e r.text r.last dialer source) (sym told.0) r.runs)
 
 pub sink-counted : {L : Type 0} (state : L → LinkState) (turns : ℕ) (login : Login) (old : DialerState L) (start : SourceState) (sink : SinkState) (end : ClientEnd) (dialer : DialerState L) (source : SourceState) (printed : SinkState)
     → RunsClient state turns login old start sink end dialer source printed → end ≡ ends.WriteFault → CountsOn 1 sink.faults printed.faults
 sink-counted state turns login old start sink end dialer source printed r is =
-    let told = subst (λ (e : ClientEnd). PrintsWhole sink r.text r.why e printed) is r.prints in told.fault
+    let told = subst (λ (e : ClientEnd). PrintsWhole sink r.text r.last r.why e printed) is r.prints in subst (λ (n : ℕ). CountsOn 1 n printed.faults) told.whole.faults told.part.fault

@@ -1,5 +1,5 @@
 -- What a line of a script asks and prints (this profile).
-use Rattle.std.specs.Prelude.{◌≡◌, ℕ, List, [], ◌∷◌, Option, Some, None, Result, Ok, Err, codes}
+use Rattle.std.specs.Prelude.{◌≡◌, ℕ, List, [], ◌∷◌, ◌++◌, Option, Some, None, Result, Ok, Err, codes}
 use Rattle.afp_base.specs.declared.code.Code.{Code}
 use Rattle.afp_base.specs.declared.code.Code.TheVariants as code
 use Rattle.afp_base.specs.declared.ids.ForkRef.{ForkRef}
@@ -11,7 +11,7 @@ use Rattle.client_script_lines.specs.calls.Requests.{open_volume}
 use Rattle.client_script_commands.specs.declared.parts.asker.Answer.{Answer}
 use Rattle.client_script_commands.specs.declared.parts.asker.Stop.{Stop}
 use Rattle.client_script_commands.specs.declared.parts.asker.Stop.TheVariants as stops
-use Rattle.client_script_commands.specs.parts.Parts.{Asked, Exchange, Part, done, with_more}
+use Rattle.client_script_commands.specs.parts.Parts.{Asked, Exchange, Part, done, with_more, with_unanswered}
 use Rattle.client_script_commands.specs.commands.Replies.{volume_in}
 use Rattle.client_script_commands.specs.commands.Mount.{mount}
 use Rattle.client_script_commands.specs.commands.Mkdir.{mkdir}
@@ -96,7 +96,7 @@ mounted_by before line exchanges = before
 
 -- that volume, where the line's exchanges stand behind those before it
 abbrev pub Mounts : {F : Type 0} → Option VolumeId → ScriptLine → Asked F → Asked F → Option VolumeId → Type 0
-Mounts old line before after new = (exchanges : List Exchange) → after ≡ with_more before exchanges → new ≡ mounted_by old line exchanges
+Mounts old line before after new = (exchanges : List Exchange) → after.exchanges ≡ before.exchanges ++ exchanges → new ≡ mounted_by old line exchanges
 
 -- what the answer to FPOpenVol tells
 abbrev pub opened_by : {E : Type 0} → Code → Option VolumeId → Result VolumeId (Stop E)
@@ -110,10 +110,10 @@ pub record IsTold {E F : Type 0} (name : List ℕ) (before : Asked F) (result : 
   pub log : after ≡ with_more before ((record { call = open_volume name; answer = answer }) ∷ [])
   pub is : result ≡ opened_by answer.code (volume_in answer.reply)
 
--- FPOpenVol was told this; or nothing was
+-- FPOpenVol was told this; or it got no answer; or it was not asked, for want of memory
 abbrev pub OpensVolume : {E F : Type 0} → List ℕ → Asked F → Result VolumeId (Stop E) → Asked F → Type 0
 OpensVolume {E} name before (Ok volume) after = IsTold {E = E} name before (Ok volume) after
 OpensVolume {E} name before (Err (stops.Refused c)) after = IsTold {E = E} name before (Err (stops.Refused c)) after
 OpensVolume {E} name before (Err stops.BadReply) after = IsTold {E = E} name before (Err stops.BadReply) after
-OpensVolume name before (Err (stops.Ended end)) after = after ≡ before
+OpensVolume name before (Err (stops.Ended end)) after = after ≡ with_unanswered before (open_volume name)
 OpensVolume name before (Err stops.Memory) after = after ≡ before

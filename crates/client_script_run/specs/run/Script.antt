@@ -8,7 +8,7 @@ use Rattle.client_script_lines.specs.lines.Lines.{line_in}
 use Rattle.client_script_lines.specs.declared.lines.line.ScriptLine.{ScriptLine}
 use Rattle.client_script_lines.specs.declared.lines.line.ScriptLine.TheVariants as lines
 use Rattle.client_script_lines.specs.texts.Texts.{error_text, newline}
-use Rattle.client_script_commands.specs.parts.Parts.{Asked, Exchange, Leads, Part, Runs, Waits, bad, done, refuses, with_more}
+use Rattle.client_script_commands.specs.parts.Parts.{Asked, Exchange, Lacks, Leads, Part, Runs, Waits, bad, done, refuses, with_more}
 use Rattle.client_script_run.specs.line.Run.{line_part, mounted_by, said_by}
 use Rattle.client_script_run.specs.declared.run.line.Printed.{Printed}
 use Rattle.client_script_run.specs.declared.run.line.Printed.TheVariants as prints
@@ -60,7 +60,7 @@ TakesLine mounted line before old takes.Done now after new = TakesBye mounted li
 TakesLine mounted line before old takes.Cut now after new = TakesCut mounted line before old now after new
 TakesLine mounted line before old (takes.Ended end said) now after new = (w : Waits before (line_part mounted line) after) × (said ≡ said_by mounted line w.runs.exchanges) × (new ≡ old)
 TakesLine mounted line before old (takes.BadReply said) now after new = (r : Runs before (line_part mounted line) bad after) × (said ≡ said_by mounted line r.exchanges) × (new ≡ old)
-TakesLine mounted line before old takes.Memory now after new = (left : Part) × Runs before (line_part mounted line) left after × (new ≡ old)
+TakesLine mounted line before old takes.Memory now after new = Lacks before (line_part mounted line) after × (new ≡ old)
 TakesLine mounted line before old takes.BadLine now after new = ⊥
 TakesLine mounted line before old takes.Unread now after new = ⊥
 

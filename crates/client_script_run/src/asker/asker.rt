@@ -3,9 +3,9 @@ ghost use Rattle.std.specs.Prelude.{◌≡◌, ◌<◌, ◌^◌, ◌-◌, ◌∷
 ghost use Rattle.afp_client.specs.session.State.{is_lost};
 ghost use Rattle.client_script_lines.specs.calls.Asked.{IsAskable};
 ghost use Rattle.client_script_run.specs.asker.Read.{zipped};
-ghost use Rattle.client_script_run.specs.asker.Standing.{AnswersBy, Closes, Finishes, IsNew, IsOpen, LogsAnswer, OpensNone, Stands, TellsOn, first_of};
+ghost use Rattle.client_script_run.specs.asker.Standing.{AnswersBy, Closes, Finishes, IsNew, IsOpen, LogsAnswer, LogsUnanswered, OpensNone, Stands, TellsOn, first_of};
 
-use crate::asker::exchanges::Exchanges;
+use crate::asker::exchanges::{Exchanges, note_unanswered};
 use crate::asker::kind::reply_kind;
 use afp_base::{Bytes, Moment};
 use afp_calls_grammar::Call;
@@ -13,7 +13,7 @@ use afp_client::{ClientCore, Limit, Talk, TalkEnd, Told};
 use afp_outside::Dialer;
 use afp_replies::{ReplyFault, read_reply};
 use client_script_commands::{Answer, Asker};
-use ghost_log::Log;
+use ghost_log::{Log, Notes};
 use std::alloc::Global;
 use std::marker::Model;
 use std::snapshot::Snapshot;
@@ -46,6 +46,7 @@ pub struct LinkAsker<D: Dialer> {
     talk: Talk<D>,
     beginning: Beginning<D>,
     exchanges: Exchanges,
+    unanswered: Notes<Call<'static>>,
     ended: Option<AskEnd>,
     answered: u64,
     place: u64,
@@ -60,14 +61,14 @@ impl<D: Dialer> Model for LinkAsker<D> {
     ghost Value = { AskerValue (Beginning D) };
 
     ghost view = { λ a. record {
-      asked = record { fixed = a.beginning; exchanges = zipped a.exchanges.calls.items a.exchanges.answers.items };
+      asked = record { fixed = a.beginning; exchanges = zipped a.exchanges.calls.items a.exchanges.answers.items; unanswered = a.unanswered.items };
       answered = a.answered;
       ended = a.ended;
       cost = a.talk.cost;
       place = a.place;
     } };
 
-    ghost invariant = { λ a. Stands D.Link.link_state (first_of a.beginning.core.value a.beginning.turns) (D.dialer_state a.beginning.dialer.value) a.beginning.limits.items a.talk.turns (zipped a.exchanges.calls.items a.exchanges.answers.items) a.ended
+    ghost invariant = { λ a. Stands D.Link.link_state (first_of a.beginning.core.value a.beginning.turns) (D.dialer_state a.beginning.dialer.value) a.beginning.limits.items a.talk.turns (zipped a.exchanges.calls.items a.exchanges.answers.items) a.unanswered.items a.ended
         a.talk.link a.talk.core a.talk.out (length a.talk.room.items) a.talk.noted a.talk.idle a.talk.cost a.place (D.dialer_state a.talk.dialer) };
 }
 
@@ -98,7 +99,7 @@ pub fn open_asker<D: Dialer>(
     requires some { 0 < length room.items }
     requires small { length room.items < 2 ^ 20 }
     requires turns { turns < 2 ^ 63 }
-    ensures opened { IfOk result (λ a. IsNew core dialer turns a.asked.fixed.core.value a.asked.fixed.dialer.value a.asked.fixed.turns a.asked.fixed.limits.items a.asked.exchanges a.ended) }
+    ensures opened { IfOk result (λ a. IsNew core dialer turns a.asked.fixed.core.value a.asked.fixed.dialer.value a.asked.fixed.turns a.asked.fixed.limits.items a.asked.exchanges a.asked.unanswered a.ended) }
     ensures failed { IfErr result (λ f. OpensNone D.Link.link_state turns (first_of core turns) (D.dialer_state dialer) f.end (D.dialer_state f.dialer)) }
 {
     let first = Limit { turns, spent: 0 };
@@ -123,6 +124,7 @@ pub fn open_asker<D: Dialer>(
             talk,
             beginning,
             exchanges: Exchanges::new(),
+            unanswered: Notes::new(),
             ended: None,
             answered: 0,
             place: 0,
@@ -157,16 +159,19 @@ fn take_told<D: Dialer>(
     talk: &mut Talk<D>,
     beginning: &Beginning<D>,
     exchanges: &mut Exchanges,
+    unanswered: &mut Notes<Call<'static>>,
     ended: &mut Option<AskEnd>,
     call: &Call,
     told: Told,
 ) -> Result<Answer, AskEnd>
     requires linked { IsSome talk.old.link }
     requires none { ended.old ≡ None }
+    requires answered { unanswered.old.items ≡ [] }
     ensures logs { LogsAnswer call.now (zipped exchanges.old.calls.items exchanges.old.answers.items) result (zipped exchanges.new.calls.items exchanges.new.answers.items) }
+    ensures unanswered { LogsUnanswered call.now unanswered.old.items result unanswered.new.items }
     ensures turns { talk.new.turns ≡ talk.old.turns }
     ensures stands { TellsOn D.Link.link_state (first_of beginning.now.core.value beginning.now.turns) (D.dialer_state beginning.now.dialer.value) beginning.now.limits.items talk.old.turns (zipped exchanges.old.calls.items exchanges.old.answers.items) call.now told talk.old.link talk.old.core talk.old.out (length talk.old.room.items) talk.old.noted talk.old.idle talk.old.cost (D.dialer_state talk.old.dialer)
-        → Stands D.Link.link_state (first_of beginning.now.core.value beginning.now.turns) (D.dialer_state beginning.now.dialer.value) beginning.now.limits.items talk.new.turns (zipped exchanges.new.calls.items exchanges.new.answers.items) ended.new talk.new.link talk.new.core talk.new.out (length talk.new.room.items) talk.new.noted talk.new.idle talk.new.cost told.at (D.dialer_state talk.new.dialer) }
+        → Stands D.Link.link_state (first_of beginning.now.core.value beginning.now.turns) (D.dialer_state beginning.now.dialer.value) beginning.now.limits.items talk.new.turns (zipped exchanges.new.calls.items exchanges.new.answers.items) unanswered.new.items ended.new talk.new.link talk.new.core talk.new.out (length talk.new.room.items) talk.new.noted talk.new.idle talk.new.cost told.at (D.dialer_state talk.new.dialer) }
 {
     match answer_of(alloc, call, &told) {
         Ok(answer) => {
@@ -175,6 +180,7 @@ fn take_told<D: Dialer>(
         }
         Err(end) => {
             talk.leave();
+            note_unanswered(unanswered, call);
             *ended = Some(end);
             Err(end)
         }
@@ -187,6 +193,7 @@ fn ask_open<D: Dialer>(
     talk: &mut Talk<D>,
     beginning: &Beginning<D>,
     exchanges: &mut Exchanges,
+    unanswered: &mut Notes<Call<'static>>,
     ended: &mut Option<AskEnd>,
     answered: &mut u64,
     place: &mut u64,
@@ -194,14 +201,17 @@ fn ask_open<D: Dialer>(
 ) -> Result<Answer, AskEnd>
     requires askable { IsAskable call.now }
     requires none { ended.old ≡ None }
+    requires answered { unanswered.old.items ≡ [] }
     requires open { IsOpen D.Link.link_state (first_of beginning.now.core.value beginning.now.turns) (D.dialer_state beginning.now.dialer.value) beginning.now.limits.items talk.old.turns (zipped exchanges.old.calls.items exchanges.old.answers.items) talk.old.link talk.old.core talk.old.out (length talk.old.room.items) talk.old.noted talk.old.idle talk.old.cost place.old (D.dialer_state talk.old.dialer) }
     ensures logs { LogsAnswer call.now (zipped exchanges.old.calls.items exchanges.old.answers.items) result (zipped exchanges.new.calls.items exchanges.new.answers.items) }
+    ensures unanswered { LogsUnanswered call.now unanswered.old.items result unanswered.new.items }
     ensures falls { OnOk result (2 ^ 64 - answered.new < 2 ^ 64 - answered.old) }
     ensures turns { talk.new.turns ≡ talk.old.turns }
-    ensures stands { Stands D.Link.link_state (first_of beginning.now.core.value beginning.now.turns) (D.dialer_state beginning.now.dialer.value) beginning.now.limits.items talk.new.turns (zipped exchanges.new.calls.items exchanges.new.answers.items) ended.new talk.new.link talk.new.core talk.new.out (length talk.new.room.items) talk.new.noted talk.new.idle talk.new.cost place.new (D.dialer_state talk.new.dialer) }
+    ensures stands { Stands D.Link.link_state (first_of beginning.now.core.value beginning.now.turns) (D.dialer_state beginning.now.dialer.value) beginning.now.limits.items talk.new.turns (zipped exchanges.new.calls.items exchanges.new.answers.items) unanswered.new.items ended.new talk.new.link talk.new.core talk.new.out (length talk.new.room.items) talk.new.noted talk.new.idle talk.new.cost place.new (D.dialer_state talk.new.dialer) }
 {
     if *answered == u64::MAX {
         talk.leave();
+        note_unanswered(unanswered, call);
         *ended = Some(AskEnd::Memory);
         return Err(AskEnd::Memory);
     }
@@ -209,9 +219,12 @@ fn ask_open<D: Dialer>(
         Ok(told) => {
             *answered += 1;
             *place = told.at;
-            take_told(alloc, talk, beginning, exchanges, ended, call, told)
+            take_told(
+                alloc, talk, beginning, exchanges, unanswered, ended, call, told,
+            )
         }
         Err(end) => {
+            note_unanswered(unanswered, call);
             *ended = Some(AskEnd::Links(end));
             Err(AskEnd::Links(end))
         }
@@ -244,6 +257,7 @@ impl<D: Dialer> LinkAsker<D> {
     pub fn limit(&mut self, turns: u64)
         requires { turns < 2 ^ 63 }
         ensures exchanges { self.new.asked.exchanges ≡ self.old.asked.exchanges }
+        ensures unanswered { self.new.asked.unanswered ≡ self.old.asked.unanswered }
         ensures core { self.new.asked.fixed.core ≡ self.old.asked.fixed.core }
         ensures dialer { self.new.asked.fixed.dialer ≡ self.old.asked.fixed.dialer }
         ensures ended { self.new.ended ≡ self.old.ended }
@@ -268,7 +282,7 @@ impl<D: Dialer> LinkAsker<D> {
     /// Ends the session, where it has a link: CloseSession is written, whatever becomes of the write. Where there is no memory for it, the
     /// link is left in silence, and `Memory` tells so.
     pub fn close(self) -> Finished<D>
-        ensures { Closes D.Link.link_state (first_of self.asked.fixed.core.value self.asked.fixed.turns) (D.dialer_state self.asked.fixed.dialer.value) self.asked.fixed.limits.items self.asked.exchanges self.ended result.end self.cost self.place (D.dialer_state result.dialer) }
+        ensures { Closes D.Link.link_state (first_of self.asked.fixed.core.value self.asked.fixed.turns) (D.dialer_state self.asked.fixed.dialer.value) self.asked.fixed.limits.items self.asked.exchanges self.asked.unanswered self.ended result.end self.cost self.place (D.dialer_state result.dialer) }
     {
         let mut talk = self.talk;
         match self.ended {
@@ -292,7 +306,7 @@ impl<D: Dialer> LinkAsker<D> {
     /// Leaves the link, where it has one: nothing more is written.
     pub fn leave(self) -> Finished<D>
         ensures end { result.end ≡ self.ended }
-        ensures finishes { Finishes D.Link.link_state (first_of self.asked.fixed.core.value self.asked.fixed.turns) (D.dialer_state self.asked.fixed.dialer.value) self.asked.fixed.limits.items self.asked.exchanges self.ended self.cost self.place (D.dialer_state result.dialer) }
+        ensures finishes { Finishes D.Link.link_state (first_of self.asked.fixed.core.value self.asked.fixed.turns) (D.dialer_state self.asked.fixed.dialer.value) self.asked.fixed.limits.items self.asked.exchanges self.asked.unanswered self.ended self.cost self.place (D.dialer_state result.dialer) }
     {
         let mut talk = self.talk;
         match self.ended {
@@ -324,12 +338,16 @@ impl<D: Dialer> Asker for LinkAsker<D> {
 
     fn ask(&mut self, call: &Call) -> Result<Answer, AskEnd> {
         match self.ended {
-            Some(end) => Err(end),
+            Some(end) => {
+                note_unanswered(&mut self.unanswered, call);
+                Err(end)
+            }
             None => ask_open(
                 self.alloc,
                 &mut self.talk,
                 &self.beginning,
                 &mut self.exchanges,
+                &mut self.unanswered,
                 &mut self.ended,
                 &mut self.answered,
                 &mut self.place,

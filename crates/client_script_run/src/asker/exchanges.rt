@@ -36,3 +36,10 @@ impl Exchanges {
         }
     }
 }
+
+/// Notes one more call that got no answer.
+pub(crate) fn note_unanswered(unanswered: &mut Notes<Call<'static>>, call: &Call)
+    ensures { unanswered.new.items ≡ unanswered.old.items ++ call.now ∷ [] }
+{
+    *unanswered = unanswered.and(call);
+}

@@ -1,5 +1,5 @@
 //! Commands that need a volume.
-ghost use Rattle.std.specs.Prelude.{◌≡◌, IfOk, codes};
+ghost use Rattle.std.specs.Prelude.{◌≡◌, IfOk, OnOk, codes};
 ghost use Rattle.afp_base.specs.declared.ids.VolumeId.{VolumeId};
 ghost use Rattle.client_script_commands.specs.commands.Cp.{cp};
 ghost use Rattle.client_script_commands.specs.commands.Find.{find};
@@ -77,6 +77,7 @@ pub(crate) fn run_ls<A: Asker>(
 ) -> Result<Bytes, Stop<A::End>>
     ensures comes { Comes (A.exchanges asker.old) (in_volume mounted (λ (volume : VolumeId). ls volume (path_text path.now))) result (A.exchanges asker.new) }
     ensures said { IsSaid (said_in mounted) (A.exchanges asker.old) said.old result said.new (A.exchanges asker.new) }
+    ensures silent { OnOk result (said.new ≡ said.old) }
 {
     parts_end::<A>();
     let Some(volume) = mounted else {

@@ -1,4 +1,5 @@
 //! A line, carried out.
+ghost use Rattle.std.specs.Prelude.{◌≡◌, OnOk};
 ghost use Rattle.client_script_commands.specs.ls.Ls.{IsSaid};
 ghost use Rattle.client_script_commands.specs.parts.Parts.{Comes};
 ghost use Rattle.client_script_run.specs.line.Run.{Mounts, line_part, said_by};
@@ -30,6 +31,7 @@ pub fn run_line<A: Asker>(
     ensures comes { Comes (A.exchanges asker.old) (line_part mounted.old line.now) result (A.exchanges asker.new) }
     ensures mounts { Mounts mounted.old line.now (A.exchanges asker.old) (A.exchanges asker.new) mounted.new }
     ensures said { IsSaid (said_by mounted.old line.now) (A.exchanges asker.old) said.old result said.new (A.exchanges asker.new) }
+    ensures silent { OnOk result (said.new ≡ said.old) }
 {
     match line {
         ScriptLine::Mount { volume } => run_mount(alloc, asker, mounted, volume.as_slice()),

@@ -97,11 +97,12 @@ fn take_lines<S: Source, O: Sink, D: Dialer>(
     requires turns { turns < 2 ^ 63 }
     requires live { asker.old.ended ≡ None }
     requires none { asker.old.asked.exchanges ≡ [] }
+    requires answered { asker.old.asked.unanswered ≡ [] }
     requires limits { asker.old.asked.fixed.limits.items ≡ (record { turns = turns; spent = 0 }) ∷ [] }
     ensures core { asker.new.asked.fixed.core ≡ asker.old.asked.fixed.core }
     ensures dialer { asker.new.asked.fixed.dialer ≡ asker.old.asked.fixed.dialer }
     ensures turns { asker.new.asked.fixed.turns ≡ asker.old.asked.fixed.turns }
-    ensures stops { StopsLines turns (S.source_state source.old) (O.sink_state out.old) result.end (stood_at asker.new.asked.exchanges asker.new.ended asker.new.cost asker.new.place asker.new.asked.fixed.limits.items result.closes) (S.source_state source.new) (O.sink_state out.new) }
+    ensures stops { StopsLines turns (S.source_state source.old) (O.sink_state out.old) result.end (stood_at asker.new.asked.exchanges asker.new.asked.unanswered asker.new.ended asker.new.cost asker.new.place asker.new.asked.fixed.limits.items result.closes) (S.source_state source.new) (O.sink_state out.new) }
 {
     let mut lines = Lines::new(alloc);
     let mut mounted = None;
@@ -169,6 +170,7 @@ fn run_open<S: Source, O: Sink, D: Dialer>(
     requires turns { turns < 2 ^ 63 }
     requires live { asker.ended ≡ None }
     requires none { asker.asked.exchanges ≡ [] }
+    requires answered { asker.asked.unanswered ≡ [] }
     requires limits { asker.asked.fixed.limits.items ≡ (record { turns = turns; spent = 0 }) ∷ [] }
     ensures { RunsPrinted D.Link.link_state turns (first_of asker.asked.fixed.core.value asker.asked.fixed.turns) (D.dialer_state asker.asked.fixed.dialer.value) (S.source_state source.old) (O.sink_state out.old) result.end (D.dialer_state result.dialer) (S.source_state source.new) (O.sink_state out.new) }
 {

@@ -1,5 +1,5 @@
 -- How far a script has come, and what its next line comes to.
-use Rattle.std.specs.Prelude.{◌≡◌, ◌⊎◌, ℕ, Bool, false, List, length, Option, Some, None}
+use Rattle.std.specs.Prelude.{◌≡◌, ◌⊎◌, ℕ, Bool, false, List, [], length, Option, Some, None}
 use Rattle.afp_base.specs.declared.ids.VolumeId.{VolumeId}
 use Rattle.afp_outside.specs.ends.Dialer.{DialerState}
 use Rattle.afp_outside.specs.ends.Link.{LinkState}
@@ -9,6 +9,7 @@ use Rattle.afp_outside.specs.lines.Lines as Read
 use Rattle.afp_outside.specs.ends.Whole.{Prints, PrintsPart}
 use Rattle.afp_client.specs.links.OnLink.{Start}
 use Rattle.afp_client.specs.declared.links.talk.Limit.{Limit}
+use Rattle.afp_calls_grammar.specs.declared.grammar.call.Call.{Call}
 use Rattle.client_script_commands.specs.parts.Parts.{Exchange}
 use Rattle.client_script_run.specs.declared.asker.asker.AskEnd.{AskEnd}
 use Rattle.client_script_run.specs.run.Carried.{AreCarried, Carried, exchanges_of, limits_behind, mounted_behind, printed_of, source_behind, unread_behind}
@@ -47,17 +48,18 @@ StopsBy (takes.Ended end said) (Some why) line at old stop new = (told : ClientE
 StopsBy (takes.BadReply said) None line at old stop new = (told : ClientEnd) × (stop ≡ Some told) × PrintsSaid old said (ends.BadReply at) told new
 StopsBy taken ended line at old stop new = (stop ≡ stop_by taken ended line at) × (new ≡ old)
 
-abbrev pub stood_at : List Exchange → Option AskEnd → ℕ → ℕ → List Limit → Bool → Stood
-stood_at exchanges ended cost place limits closes = record { exchanges = exchanges; ended = ended; cost = cost; place = place; limits = limits; closes = closes }
+abbrev pub stood_at : List Exchange → List Call → Option AskEnd → ℕ → ℕ → List Limit → Bool → Stood
+stood_at exchanges unanswered ended cost place limits closes = record { exchanges = exchanges; unanswered = unanswered; ended = ended; cost = cost; place = place; limits = limits; closes = closes }
 
 -- These lines were carried out, and their text was printed.
-pub record SoFar (turns : ℕ) (start : SourceState) (sink : SinkState) (unread : Read.Unread) (source : SourceState) (mounted : Option VolumeId) (exchanges : List Exchange) (ended : Option AskEnd) (limits : List Limit) (number : ℕ) (printed : SinkState) : Type 0 where
+pub record SoFar (turns : ℕ) (start : SourceState) (sink : SinkState) (unread : Read.Unread) (source : SourceState) (mounted : Option VolumeId) (exchanges : List Exchange) (unanswered : List Call) (ended : Option AskEnd) (limits : List Limit) (number : ℕ) (printed : SinkState) : Type 0 where
   pub carried : List Carried
   pub are : AreCarried turns start carried
   pub unread_is : unread ≡ unread_behind carried
   pub source_is : source ≡ source_behind start carried
   pub mounted_is : mounted ≡ mounted_behind carried
   pub told : exchanges ≡ exchanges_of carried
+  pub answered : unanswered ≡ []
   pub live : ended ≡ None
   pub limits_are : limits ≡ limits_behind turns carried
   pub number_is : number ≡ length carried
@@ -67,17 +69,18 @@ pub record SoFar (turns : ℕ) (start : SourceState) (sink : SinkState) (unread 
 pub record StopsLines (turns : ℕ) (start : SourceState) (sink : SinkState) (why : ClientEnd) (stood : Stood) (source : SourceState) (printed : SinkState) : Type 0 where
   pub carried : List Carried
   pub are : AreCarried turns start carried
-  pub text : List ℕ
-  pub stops : Stops turns start carried why text stood source
-  pub prints : PrintsLines sink text why printed
+  pub last : List ℕ
+  pub stops : Stops turns start carried why last stood source
+  pub prints : PrintsLines sink (printed_of carried) last why printed
 
 -- by why it stops, where it does
-abbrev pub StopsOr : ℕ → SourceState → SinkState → Option ClientEnd → Read.Unread → SourceState → Option VolumeId → List Exchange → Option AskEnd → ℕ → ℕ → List Limit → ℕ → SinkState → Type 0
-StopsOr turns start sink None unread source mounted exchanges ended cost place limits number printed = SoFar turns start sink unread source mounted exchanges ended limits number printed
-StopsOr turns start sink (Some why) unread source mounted exchanges ended cost place limits number printed = StopsLines turns start sink why (stood_at exchanges ended cost place limits false) source printed
+abbrev pub StopsOr : ℕ → SourceState → SinkState → Option ClientEnd → Read.Unread → SourceState → Option VolumeId → List Exchange → List Call → Option AskEnd → ℕ → ℕ → List Limit → ℕ → SinkState → Type 0
+StopsOr turns start sink None unread source mounted exchanges unanswered ended cost place limits number printed = SoFar turns start sink unread source mounted exchanges unanswered ended limits number printed
+StopsOr turns start sink (Some why) unread source mounted exchanges unanswered ended cost place limits number printed = StopsLines turns start sink why (stood_at exchanges unanswered ended cost place limits false) source printed
 
 -- A script ran, and the text of its lines was printed.
 pub record RunsPrinted {L : Type 0} (state : L → LinkState) (turns : ℕ) (first : Start) (old : DialerState L) (start : SourceState) (sink : SinkState) (why : ClientEnd) (dialer : DialerState L) (source : SourceState) (printed : SinkState) : Type 0 where
   pub text : List ℕ
-  pub runs : Runs state turns first old start why text dialer source
-  pub prints : PrintsLines sink text why printed
+  pub last : List ℕ
+  pub runs : Runs state turns first old start why text last dialer source
+  pub prints : PrintsLines sink text last why printed

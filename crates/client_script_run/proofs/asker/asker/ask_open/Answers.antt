@@ -14,4 +14,4 @@ returns-in-Err-clause-stands g c =
     let limits = c.args.beginning.now.limits.items in
     let old = g.D.Dialer.dialer_state c.args.beginning.now.dialer.value in
     links-end state first old limits was.turns exchanges was.link now.link was.core now.core was.out (length was.room.items) was.noted now.noted was.idle now.idle was.cost now.cost c.args.place.now
-    (g.D.Dialer.dialer_state was.dialer) (g.D.Dialer.dialer_state now.dialer) c.args.call.now c.in-Err.end c.requires.open c.in-Err.ensures.answers
+    (g.D.Dialer.dialer_state was.dialer) (g.D.Dialer.dialer_state now.dialer) c.args.call.now c.in-Err.end c.requires.open c.in-Err.ensures.answers c.args.unanswered.now.items c.note_unanswered-in-Err.new.unanswered.items c.requires.answered c.note_unanswered-in-Err.ensures

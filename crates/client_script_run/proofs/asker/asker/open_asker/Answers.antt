@@ -20,14 +20,16 @@ invariant_of-result g c =
     let was = c.new-talk.result in
     let now = c.open.new.self in
     let first : Limit = record { turns = c.args.turns; spent = 0 } in
-    let is_turns = c.open.ensures.turns ∙ c.new-talk.ensures.turns in
-    opens-asker g.D.Link.Link.link_state c.args.core c.of.result.value (g.D.Dialer.dialer_state c.args.dialer) (g.D.Dialer.dialer_state c.of-2.result.value) was.turns now.turns c.args.turns c.and-limits.result.items
-    (zipped c.new-in-Ok.result.calls.items c.new-in-Ok.result.answers.items) was.link now.link was.core now.core now.out (length now.room.items)
-    was.noted now.noted was.idle now.idle was.cost now.cost 0 (g.D.Dialer.dialer_state was.dialer) (g.D.Dialer.dialer_state now.dialer) c.in-Ok.field-0
-    (search rules) (search rules) c.new-talk.ensures.stands c.in-Ok.ensures.opens c.new-talk.ensures.turns is_turns (c.and-limits.ensures ∙ ap (λ (ls : List Limit). ls ++ first ∷ []) c.new-none.ensures)
-    c.new-in-Ok.ensures c.in-Ok.ensures.link c.in-Ok.ensures.empty c.in-Ok.ensures.ready
-    (omega (arith, c.open.ensures.room, c.new-talk.ensures.room, c.requires.some)) (omega (arith, c.open.ensures.room, c.new-talk.ensures.room, c.requires.small)) c.in-Ok.ensures.below c.in-Ok.ensures.fits
-    (omega (arith, is_turns, c.requires.turns))
+    let is_turns = c.open.ensures.turns ∙ c.new-talk.ensures.turns in (
+      c.new-in-Ok-2.ensures,
+      opens-asker g.D.Link.Link.link_state c.args.core c.of.result.value (g.D.Dialer.dialer_state c.args.dialer) (g.D.Dialer.dialer_state c.of-2.result.value) was.turns now.turns c.args.turns c.and-limits.result.items
+          (zipped c.new-in-Ok.result.calls.items c.new-in-Ok.result.answers.items) was.link now.link was.core now.core now.out (length now.room.items)
+          was.noted now.noted was.idle now.idle was.cost now.cost 0 (g.D.Dialer.dialer_state was.dialer) (g.D.Dialer.dialer_state now.dialer) c.in-Ok.field-0
+          (search rules) (search rules) c.new-talk.ensures.stands c.in-Ok.ensures.opens c.new-talk.ensures.turns is_turns (c.and-limits.ensures ∙ ap (λ (ls : List Limit). ls ++ first ∷ []) c.new-none.ensures)
+          c.new-in-Ok.ensures c.in-Ok.ensures.link c.in-Ok.ensures.empty c.in-Ok.ensures.ready
+          (omega (arith, c.open.ensures.room, c.new-talk.ensures.room, c.requires.some)) (omega (arith, c.open.ensures.room, c.new-talk.ensures.room, c.requires.small)) c.in-Ok.ensures.below c.in-Ok.ensures.fits
+          (omega (arith, is_turns, c.requires.turns)),
+    )
 
 pub returns-in-Err-clause-failed : goal.returns-in-Err-clause-failed
 returns-in-Err-clause-failed g c =

@@ -13,7 +13,7 @@ returns-in-None g c =
     let src = g.S.Source.source_state in
     let snk = g.O.Sink.sink_state in
     closed-runs state c.args.turns (first_of was.core.value was.turns) (first_of now.asked.fixed.core.value now.asked.fixed.turns) (g.D.Dialer.dialer_state was.dialer.value) (g.D.Dialer.dialer_state now.asked.fixed.dialer.value) (src c.args.source.now) (snk c.args.out.now)
-    took.result.end now.asked.exchanges now.ended now.cost now.place now.asked.fixed.limits.items took.result.closes (g.D.Dialer.dialer_state c.close-finished.result.dialer) (src took.new.source) (snk took.new.out)
+    took.result.end now.asked.exchanges now.asked.unanswered now.ended now.cost now.place now.asked.fixed.limits.items took.result.closes (g.D.Dialer.dialer_state c.close-finished.result.dialer) (src took.new.source) (snk took.new.out)
     took.ensures.stops (ap (λ (x : Client). first_of x now.asked.fixed.turns) (ap (λ s. s.value) took.ensures.core) ∙ ap (λ (n : ℕ). first_of was.core.value n) took.ensures.turns) (cc took.ensures.dialer) c.close-finished.result.end c.in-None.is c.if-ended.true c.close-finished.ensures
 
 pub returns-in-Some : goal.returns-in-Some
@@ -25,7 +25,7 @@ returns-in-Some g c =
     let src = g.S.Source.source_state in
     let snk = g.O.Sink.sink_state in
     unclosed-runs state c.args.turns (first_of was.core.value was.turns) (first_of now.asked.fixed.core.value now.asked.fixed.turns) (g.D.Dialer.dialer_state was.dialer.value) (g.D.Dialer.dialer_state now.asked.fixed.dialer.value) (src c.args.source.now) (snk c.args.out.now)
-    took.result.end now.asked.exchanges now.ended now.cost now.place now.asked.fixed.limits.items took.result.closes (g.D.Dialer.dialer_state c.close-finished.result.dialer) (src took.new.source) (snk took.new.out)
+    took.result.end now.asked.exchanges now.asked.unanswered now.ended now.cost now.place now.asked.fixed.limits.items took.result.closes (g.D.Dialer.dialer_state c.close-finished.result.dialer) (src took.new.source) (snk took.new.out)
     took.ensures.stops (ap (λ (x : Client). first_of x now.asked.fixed.turns) (ap (λ s. s.value) took.ensures.core) ∙ ap (λ (n : ℕ). first_of was.core.value n) took.ensures.turns) (cc took.ensures.dialer) c.close-finished.result.end c.in-Some.field-0 c.in-Some.is c.if-ended.true c.close-finished.ensures
 
 pub returns-else-ended : goal.returns-else-ended
@@ -37,5 +37,5 @@ returns-else-ended g c =
     let src = g.S.Source.source_state in
     let snk = g.O.Sink.sink_state in
     left-runs state c.args.turns (first_of was.core.value was.turns) (first_of now.asked.fixed.core.value now.asked.fixed.turns) (g.D.Dialer.dialer_state was.dialer.value) (g.D.Dialer.dialer_state now.asked.fixed.dialer.value) (src c.args.source.now) (snk c.args.out.now)
-    took.result.end now.asked.exchanges now.ended now.cost now.place now.asked.fixed.limits.items took.result.closes (g.D.Dialer.dialer_state c.leave-finished.result.dialer) (src took.new.source) (snk took.new.out)
+    took.result.end now.asked.exchanges now.asked.unanswered now.ended now.cost now.place now.asked.fixed.limits.items took.result.closes (g.D.Dialer.dialer_state c.leave-finished.result.dialer) (src took.new.source) (snk took.new.out)
     took.ensures.stops (ap (λ (x : Client). first_of x now.asked.fixed.turns) (ap (λ s. s.value) took.ensures.core) ∙ ap (λ (n : ℕ). first_of was.core.value n) took.ensures.turns) (cc took.ensures.dialer) c.if-ended.false c.leave-finished.ensures.finishes

@@ -12,8 +12,9 @@ returns-then-print_end g c =
     record {
       why = ran.result.end;
       text = ran.ensures.text;
+      last = ran.ensures.last;
       runs = ran.ensures.runs;
-      prints = prints-end (snk c.args.out.now) (snk ran.new.out) (snk printed.new.out) ran.ensures.text ran.result.end ran.ensures.prints
+      prints = prints-end (snk c.args.out.now) (snk ran.new.out) (snk printed.new.out) ran.ensures.text ran.ensures.last ran.result.end ran.ensures.prints
           (subst (λ (b : Bool). PrintsAll (snk ran.new.out) (last_line ran.result.end) b (snk printed.new.out)) c.if-print_end.true printed.ensures);
     }
 
@@ -25,7 +26,8 @@ returns g c =
     record {
       why = ran.result.end;
       text = ran.ensures.text;
+      last = ran.ensures.last;
       runs = ran.ensures.runs;
-      prints = prints-part (snk c.args.out.now) (snk ran.new.out) (snk printed.new.out) ran.ensures.text ran.result.end ran.ensures.prints
+      prints = prints-part (snk c.args.out.now) (snk ran.new.out) (snk printed.new.out) ran.ensures.text ran.ensures.last ran.result.end ran.ensures.prints
           (subst (λ (b : Bool). PrintsAll (snk ran.new.out) (last_line ran.result.end) b (snk printed.new.out)) c.if-print_end.false printed.ensures);
     }

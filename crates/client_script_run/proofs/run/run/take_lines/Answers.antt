@@ -10,7 +10,7 @@ loop-text-init g c = record {
   core = refl;
   dialer = refl;
   turns = refl;
-  so_far = starts c.args.turns (g.S.Source.source_state c.args.source.now) (g.O.Sink.sink_state c.args.out.now) c.new-lines.result c.args.asker.now.asked.exchanges c.args.asker.now.ended c.args.asker.now.asked.fixed.limits.items c.new-lines.ensures c.requires.none c.requires.live c.requires.limits;
+  so_far = starts c.args.turns (g.S.Source.source_state c.args.source.now) (g.O.Sink.sink_state c.args.out.now) c.new-lines.result c.args.asker.now.asked.exchanges c.args.asker.now.asked.unanswered c.args.asker.now.ended c.args.asker.now.asked.fixed.limits.items c.new-lines.ensures c.requires.none c.requires.answered c.requires.live c.requires.limits;
 }
 
 pub overflow_add-number : goal.overflow_add-number
@@ -37,10 +37,10 @@ loop-text-preserved g c =
       core = ap (λ b. b.core) fixed ∙ c.limit.ensures.core ∙ was.invariant.core;
       dialer = ap (λ b. b.dialer) fixed ∙ c.limit.ensures.dialer ∙ was.invariant.dialer;
       turns = ap (λ b. b.turns) fixed ∙ c.limit.ensures.turns ∙ was.invariant.turns;
-      so_far = line-goes c.args.turns (src c.args.source.now) (snk c.args.out.now) c.stop_by.result c.next.new.self (src c.next.new.source) took.new.mounted asker.asked.exchanges asker.ended asker.cost asker.place asker.asked.fixed.limits.items (was.number + 1) (snk c.stop_by.new.out)
-          (line-comes c.args.turns (src c.args.source.now) (snk c.args.out.now) was.lines c.next.new.self (src was.source) (src c.next.new.source) was.mounted took.new.mounted was.asker.asked.exchanges was.asker.ended asker.ended c.ended.result
+      so_far = line-goes c.args.turns (src c.args.source.now) (snk c.args.out.now) c.stop_by.result c.next.new.self (src c.next.new.source) took.new.mounted asker.asked.exchanges asker.asked.unanswered asker.ended asker.cost asker.place asker.asked.fixed.limits.items (was.number + 1) (snk c.stop_by.new.out)
+          (line-comes c.args.turns (src c.args.source.now) (snk c.args.out.now) was.lines c.next.new.self (src was.source) (src c.next.new.source) was.mounted took.new.mounted was.asker.asked.exchanges was.asker.asked.unanswered was.asker.ended asker.ended c.ended.result
           was.number (was.number + 1) (snk was.out) (snk took.new.out) (snk c.stop_by.new.out) c.in-Line.text c.as_slice.result.now c.limit.new.self.asked asker.asked took.result was.asker.cost c.saturating_sub-most.result asker.cost asker.place c.place.result was.asker.asked.fixed.limits.items asker.asked.fixed.limits.items c.stop_by.result
-          so (c.saturating_sub-most.ensures ∙ ap (λ (n : ℕ). c.args.turns - n) c.cost.ensures) c.in-Line.ensures c.limit.ensures.exchanges refl
+          so (c.saturating_sub-most.ensures ∙ ap (λ (n : ℕ). c.args.turns - n) c.cost.ensures) c.in-Line.ensures c.limit.ensures.exchanges c.limit.ensures.unanswered refl
           (ap (λ b. b.limits.items) fixed ∙ c.limit.ensures.limits so.live
           ∙ ap (λ (n : ℕ). was.asker.asked.fixed.limits.items ++ (record { turns = n; spent = was.asker.cost }) ∷ []) (c.saturating_sub.ensures ∙ ap (λ (n : ℕ). c.args.turns - n) c.taken.ensures))
           took.ensures c.as_slice.ensures c.stop_by.ensures c.ended.ensures c.place.ensures)
@@ -56,10 +56,10 @@ returns-in-Some-clause-stops g c =
     let asker = took.new.asker in
     let fixed = keeps-fixed was.mounted c.as_slice.result.now c.limit.new.self.asked (snk was.out) took.result took.new.mounted asker.asked (snk took.new.out) took.ensures in
     let so = was.invariant.so_far in
-    line-stops c.args.turns (src c.args.source.now) (snk c.args.out.now) c.stop_by.result c.in-Some.end c.next.new.self (src c.next.new.source) took.new.mounted asker.asked.exchanges asker.ended asker.cost asker.place asker.asked.fixed.limits.items (was.number + 1) (snk c.stop_by.new.out)
-    (line-comes c.args.turns (src c.args.source.now) (snk c.args.out.now) was.lines c.next.new.self (src was.source) (src c.next.new.source) was.mounted took.new.mounted was.asker.asked.exchanges was.asker.ended asker.ended c.ended.result
+    line-stops c.args.turns (src c.args.source.now) (snk c.args.out.now) c.stop_by.result c.in-Some.end c.next.new.self (src c.next.new.source) took.new.mounted asker.asked.exchanges asker.asked.unanswered asker.ended asker.cost asker.place asker.asked.fixed.limits.items (was.number + 1) (snk c.stop_by.new.out)
+    (line-comes c.args.turns (src c.args.source.now) (snk c.args.out.now) was.lines c.next.new.self (src was.source) (src c.next.new.source) was.mounted took.new.mounted was.asker.asked.exchanges was.asker.asked.unanswered was.asker.ended asker.ended c.ended.result
     was.number (was.number + 1) (snk was.out) (snk took.new.out) (snk c.stop_by.new.out) c.in-Line.text c.as_slice.result.now c.limit.new.self.asked asker.asked took.result was.asker.cost c.saturating_sub-most.result asker.cost asker.place c.place.result was.asker.asked.fixed.limits.items asker.asked.fixed.limits.items c.stop_by.result
-    so (c.saturating_sub-most.ensures ∙ ap (λ (n : ℕ). c.args.turns - n) c.cost.ensures) c.in-Line.ensures c.limit.ensures.exchanges refl
+    so (c.saturating_sub-most.ensures ∙ ap (λ (n : ℕ). c.args.turns - n) c.cost.ensures) c.in-Line.ensures c.limit.ensures.exchanges c.limit.ensures.unanswered refl
     (ap (λ b. b.limits.items) fixed ∙ c.limit.ensures.limits so.live
     ∙ ap (λ (n : ℕ). was.asker.asked.fixed.limits.items ++ (record { turns = n; spent = was.asker.cost }) ∷ []) (c.saturating_sub.ensures ∙ ap (λ (n : ℕ). c.args.turns - n) c.taken.ensures))
     took.ensures c.as_slice.ensures c.stop_by.ensures c.ended.ensures c.place.ensures)
@@ -81,28 +81,28 @@ pub returns-in-End-clause-stops : goal.returns-in-End-clause-stops
 returns-in-End-clause-stops g c =
     let was = c.loop-text in
     let src = g.S.Source.source_state in
-    source-ends c.args.turns (src c.args.source.now) (g.O.Sink.sink_state c.args.out.now) was.lines c.next.new.self (src was.source) (src c.next.new.source) was.mounted was.asker.asked.exchanges was.asker.ended was.number was.asker.cost was.asker.place was.asker.asked.fixed.limits.items
+    source-ends c.args.turns (src c.args.source.now) (g.O.Sink.sink_state c.args.out.now) was.lines c.next.new.self (src was.source) (src c.next.new.source) was.mounted was.asker.asked.exchanges was.asker.asked.unanswered was.asker.ended was.number was.asker.cost was.asker.place was.asker.asked.fixed.limits.items
     c.saturating_sub-most.result (g.O.Sink.sink_state was.out) was.invariant.so_far (c.saturating_sub-most.ensures ∙ ap (λ (n : ℕ). c.args.turns - n) c.cost.ensures) c.in-End.ensures
 
 pub returns-in-ReadFault-clause-stops : goal.returns-in-ReadFault-clause-stops
 returns-in-ReadFault-clause-stops g c =
     let was = c.loop-text in
     let src = g.S.Source.source_state in
-    source-fails c.args.turns (src c.args.source.now) (g.O.Sink.sink_state c.args.out.now) was.lines c.next.new.self (src was.source) (src c.next.new.source) was.mounted was.asker.asked.exchanges was.asker.ended was.number was.asker.cost was.asker.place was.asker.asked.fixed.limits.items
+    source-fails c.args.turns (src c.args.source.now) (g.O.Sink.sink_state c.args.out.now) was.lines c.next.new.self (src was.source) (src c.next.new.source) was.mounted was.asker.asked.exchanges was.asker.asked.unanswered was.asker.ended was.number was.asker.cost was.asker.place was.asker.asked.fixed.limits.items
     c.saturating_sub-most.result (g.O.Sink.sink_state was.out) was.invariant.so_far (c.saturating_sub-most.ensures ∙ ap (λ (n : ℕ). c.args.turns - n) c.cost.ensures) c.in-ReadFault.ensures
 
 pub returns-in-Spent-clause-stops : goal.returns-in-Spent-clause-stops
 returns-in-Spent-clause-stops g c =
     let was = c.loop-text in
     let src = g.S.Source.source_state in
-    source-spent c.args.turns (src c.args.source.now) (g.O.Sink.sink_state c.args.out.now) was.lines c.next.new.self (src was.source) (src c.next.new.source) was.mounted was.asker.asked.exchanges was.asker.ended was.number was.asker.cost was.asker.place was.asker.asked.fixed.limits.items
+    source-spent c.args.turns (src c.args.source.now) (g.O.Sink.sink_state c.args.out.now) was.lines c.next.new.self (src was.source) (src c.next.new.source) was.mounted was.asker.asked.exchanges was.asker.asked.unanswered was.asker.ended was.number was.asker.cost was.asker.place was.asker.asked.fixed.limits.items
     c.saturating_sub-most.result (g.O.Sink.sink_state was.out) was.invariant.so_far (c.saturating_sub-most.ensures ∙ ap (λ (n : ℕ). c.args.turns - n) c.cost.ensures) c.in-Spent.ensures
 
 pub returns-in-Memory-clause-stops : goal.returns-in-Memory-clause-stops
 returns-in-Memory-clause-stops g c =
     let was = c.loop-text in
     let src = g.S.Source.source_state in
-    source-lacks c.args.turns (src c.args.source.now) (g.O.Sink.sink_state c.args.out.now) was.lines (src was.source) (src c.next.new.source) was.mounted was.asker.asked.exchanges was.asker.ended was.number was.asker.cost was.asker.place was.asker.asked.fixed.limits.items
+    source-lacks c.args.turns (src c.args.source.now) (g.O.Sink.sink_state c.args.out.now) was.lines (src was.source) (src c.next.new.source) was.mounted was.asker.asked.exchanges was.asker.asked.unanswered was.asker.ended was.number was.asker.cost was.asker.place was.asker.asked.fixed.limits.items
     c.saturating_sub-most.result (g.O.Sink.sink_state was.out) was.invariant.so_far (c.saturating_sub-most.ensures ∙ ap (λ (n : ℕ). c.args.turns - n) c.cost.ensures) c.in-Memory.ensures
 
 pub returns-in-Some-clause-turns : goal.returns-in-Some-clause-turns

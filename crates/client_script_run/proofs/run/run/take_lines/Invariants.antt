@@ -10,7 +10,7 @@ invariant-loop-text g l = record {
   core : l.asker.asked.fixed.core ≡ l.initial.asker.asked.fixed.core;
   dialer : l.asker.asked.fixed.dialer ≡ l.initial.asker.asked.fixed.dialer;
   turns : l.asker.asked.fixed.turns ≡ l.initial.asker.asked.fixed.turns;
-  so_far : SoFar l.turns (g.S.Source.source_state l.initial.source) (g.O.Sink.sink_state l.initial.out) l.lines (g.S.Source.source_state l.source) l.mounted l.asker.asked.exchanges l.asker.ended l.asker.asked.fixed.limits.items l.number (g.O.Sink.sink_state l.out);
+  so_far : SoFar l.turns (g.S.Source.source_state l.initial.source) (g.O.Sink.sink_state l.initial.out) l.lines (g.S.Source.source_state l.source) l.mounted l.asker.asked.exchanges l.asker.asked.unanswered l.asker.ended l.asker.asked.fixed.limits.items l.number (g.O.Sink.sink_state l.out);
 }
 
 abbrev pub decreases-loop-text : goal.decreases-loop-text

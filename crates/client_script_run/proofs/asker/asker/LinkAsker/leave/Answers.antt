@@ -15,8 +15,8 @@ returns-in-None-clause-finishes g c =
     let limits = inside.beginning.limits.items in
     let old = g.D.Dialer.dialer_state inside.beginning.dialer.value in
     let dialer = g.D.Dialer.dialer_state talk.dialer in
-    let stands = subst (λ (e : Option AskEnd). Stands state first old limits talk.turns exchanges e talk.link talk.core talk.out (length talk.room.items) talk.noted talk.idle talk.cost inside.place dialer) c.in-None.is c.self.invariant in
+    let stands = subst (λ (e : Option AskEnd). Stands state first old limits talk.turns exchanges inside.unanswered.items e talk.link talk.core talk.out (length talk.room.items) talk.noted talk.idle talk.cost inside.place dialer) c.in-None.is c.self.invariant in
     rw (← c.self.view_is) (rw c.in-None.is
     (subst (λ (d : g.row.D.Denot). HasLeft state first old limits exchanges talk.cost inside.place (g.D.Dialer.dialer_state d)) (sym c.into_dialer.ensures)
     (leaves-on state first old limits talk.turns exchanges talk.link talk.core talk.out (length talk.room.items) talk.noted talk.idle talk.cost inside.place dialer
-    (g.D.Dialer.dialer_state c.leave.new.self.dialer) stands c.leave.ensures.leaves)))
+    (g.D.Dialer.dialer_state c.leave.new.self.dialer) stands.1 c.leave.ensures.leaves)))

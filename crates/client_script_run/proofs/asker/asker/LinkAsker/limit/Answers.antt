@@ -16,8 +16,8 @@ invariant_of-self g c =
     let more = c.and-self-inside.result.items in
     let old = g.D.Dialer.dialer_state inside.beginning.dialer.value in
     let dialer = g.D.Dialer.dialer_state talk.dialer in
-    let stands = subst (λ (e : Option AskEnd). Stands state first old limits talk.turns exchanges e talk.link talk.core talk.out (length talk.room.items) talk.noted talk.idle talk.cost inside.place dialer) c.in-None.is c.self.invariant in
-    subst (λ t. Stands state first old more t.turns exchanges inside.ended t.link t.core t.out (length t.room.items) t.noted t.idle t.cost inside.place (g.D.Dialer.dialer_state t.dialer)) (sym c.limit.ensures.same)
-    (stands-open state first old more c.args.turns exchanges inside.ended talk.link talk.core talk.out (length talk.room.items) talk.noted talk.idle talk.cost inside.place dialer c.in-None.is
-    (limits-open state first old limits more talk.turns c.args.turns exchanges talk.link talk.core talk.out (length talk.room.items) talk.noted talk.idle talk.cost inside.place dialer stands c.requires c.limit.ensures.limits
+    let stands = subst (λ (e : Option AskEnd). Stands state first old limits talk.turns exchanges inside.unanswered.items e talk.link talk.core talk.out (length talk.room.items) talk.noted talk.idle talk.cost inside.place dialer) c.in-None.is c.self.invariant in
+    subst (λ t. Stands state first old more t.turns exchanges inside.unanswered.items inside.ended t.link t.core t.out (length t.room.items) t.noted t.idle t.cost inside.place (g.D.Dialer.dialer_state t.dialer)) (sym c.limit.ensures.same)
+    (stands-open state first old more c.args.turns exchanges inside.unanswered.items inside.ended talk.link talk.core talk.out (length talk.room.items) talk.noted talk.idle talk.cost inside.place dialer c.in-None.is stands.0
+    (limits-open state first old limits more talk.turns c.args.turns exchanges talk.link talk.core talk.out (length talk.room.items) talk.noted talk.idle talk.cost inside.place dialer stands.1 c.requires c.limit.ensures.limits
     (c.and-self-inside.ensures ∙ ap (λ (n : ℕ). limits ++ (record { turns = c.args.turns; spent = n }) ∷ []) c.cost.ensures)))
