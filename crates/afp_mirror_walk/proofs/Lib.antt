@@ -3,6 +3,8 @@ pub mod NewNodes
 pub mod Paths
 pub mod TailSettings
 pub mod Steps
+pub mod AskedCalls
+pub mod NextCall
 pub mod TableRows
 pub mod Served
 pub mod TreeSteps

@@ -5,6 +5,7 @@ pub mod Settled
 pub mod Names
 pub mod Standing
 pub mod Asks
+pub mod Asking
 pub mod Settings
 pub mod Follows
 pub mod Table

@@ -2,7 +2,6 @@
 use Rattle.std.specs.Prelude.{ℕ, ℤ, Bool, true, false, if◌then◌else◌, List, ◌++◌, Option, Some, None, is_none, bit_and, bit_or}
 use Rattle.std.specs.Int.{w32, cast_unsigned}
 use Rattle.byteorder.specs.Endian.{big_bytes}
-use Rattle.afp_base.specs.declared.ids.NodeId.{NodeId}
 use Rattle.afp_bitmap.specs.declared.params.Values.{Values}
 use Rattle.afp_bitmap.specs.declared.params.Values.TheVariants.{Volume, File, Dir}
 use Rattle.afp_names.specs.Name.{name_fault}

@@ -1,14 +1,12 @@
 -- Where a mirror stands (this profile).
-use Rattle.std.specs.Prelude.{ℕ, ◌+◌, ◌<◌, ◌≤◌, Bool, List, [], length}
+use Rattle.std.specs.Prelude.{ℕ, ◌+◌, ◌<◌, ◌≤◌, List}
 use Rattle.afp_base.specs.Limits.{most_fork_bytes}
-use Rattle.afp_base.specs.declared.ids.NodeId.{NodeId}
 use Rattle.afp_base.specs.declared.ids.VolumeId.{VolumeId}
 use Rattle.afp_mirror_walk.specs.declared.walk.ends.Line.{Line}
 use Rattle.afp_mirror_walk.specs.declared.walk.standing.Checking.{Checking}
 use Rattle.afp_mirror_walk.specs.declared.walk.standing.Copying.{Copying}
 use Rattle.afp_mirror_walk.specs.declared.walk.standing.Found.{Found}
 use Rattle.afp_mirror_walk.specs.declared.walk.standing.Made.{Made}
-use Rattle.afp_mirror_walk.specs.declared.walk.standing.Pair.{Pair}
 use Rattle.afp_mirror_walk.specs.declared.walk.standing.Place.{Place}
 use Rattle.afp_mirror_walk.specs.declared.walk.standing.Stage.{Stage}
 use Rattle.afp_mirror_walk.specs.declared.walk.standing.Stage.TheVariants as stages

@@ -11,6 +11,6 @@ pub use run::{
     trees_are_changed, volumes_stay, what_is_listed_is_there, what_is_served_ok_runs,
 };
 pub use walk::{
-    Checking, Copying, Found, Heard, Line, Made, MirrorEnd, Pair, Place, Settings, Side, Stage,
-    Walk, refusals_end, told,
+    Asking, Checking, Copying, Found, Heard, Line, Made, MirrorEnd, Pair, Place, Settings, Side,
+    Stage, Walk, refusals_end, told,
 };

@@ -1,5 +1,7 @@
 //! Where a mirror stands, and what follows an answer.
 
+mod asking;
+mod calls;
 mod checks;
 mod copies;
 mod ends;
@@ -12,6 +14,7 @@ mod stepping;
 mod table;
 mod volumes;
 
+pub use crate::walk::calls::Asking;
 pub use crate::walk::ends::{Line, MirrorEnd, Side};
 pub use crate::walk::standing::{
     Checking, Copying, Found, Made, Pair, Place, Settings, Stage, Walk,
