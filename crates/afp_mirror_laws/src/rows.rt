@@ -1,0 +1,27 @@
+//! Laws. Each function says one, and does nothing.
+ghost use Rattle.afp_mirror_laws.specs.Paired as paired;
+ghost use Rattle.afp_mirror_laws.specs.Rows as rows;
+ghost use Rattle.afp_mirror_laws.specs.Swept as swept;
+
+use afp_mirror_walk::refusals_end;
+
+/// Each row of the table comes exactly from its cause.
+pub fn rows_are_exact()
+    ensures refused { rows.RefusedIsExact }
+    ensures not_empty { rows.NotEmptyIsExact }
+    ensures too_many { rows.TooManyIsExact }
+    ensures bad { rows.BadIsExact }
+    ensures changed { rows.ChangedIsExact }
+{
+    refusals_end();
+}
+
+/// A mirror that is Done has listed every directory of the source from 1 until there were no more entries.
+pub fn every_directory_is_listed()
+    ensures { swept.DoneHasSwept }
+{}
+
+/// A mirror that is Done pairs the ids that the source's lists gave, one after the other, with those of the nodes made for them.
+pub fn every_node_is_paired()
+    ensures { paired.DonePairs }
+{}
