@@ -3,12 +3,11 @@ use Rattle.std.proofs.Common.{◌≡◌, ◌∙◌, refl, sym, ap, subst, ℕ, �
 use Rattle.std.specs.Prelude.{if◌then◌else◌}
 use Rattle.afp_base.specs.Limits.{payload_limit}
 use Rattle.afp_base.specs.declared.code.Code.{Code}
-use Rattle.afp_base.specs.declared.code.Code.TheVariants as code
 use Rattle.afp_calls_grammar.specs.grammar.Call.{canonical_call, canonical_data, canonical_piece, layout_of}
 use Rattle.afp_calls_grammar.specs.grammar.Words.{Enclosed, Nothing, Piece, canonical_enclosed, enclosed_bytes}
 use Rattle.afp_calls_grammar.specs.declared.grammar.call.Call.{Call}
 use Rattle.afp_client.specs.session.State.{ClientState, IsReady, Waiting, call_frame, framed_call, is_lost}
-use Rattle.afp_client.specs.session.Takes.{Step, asked, is_ok as is_ok_code, is_retried, step, with_id}
+use Rattle.afp_client.specs.session.Takes.{Step, asked, is_retried, step, with_id}
 use Rattle.afp_client.specs.declared.session.event.Event.TheVariants as events
 use Rattle.afp_client.specs.declared.session.stage.Stage.TheVariants as stages
 use Rattle.afp_serial.specs.Answer.{link_number}
@@ -17,10 +16,9 @@ use Rattle.afp_serial.specs.declared.ask.Told.TheVariants as tells
 use Rattle.afp_server.specs.declared.link.stage.Stage.TheVariants.{Open}
 use Rattle.dsi_frame.specs.Frame.{IsGood, canonical_frame}
 use Rattle.dsi_session.specs.RequestIds.{id_after}
-use Rattle.once_across_breaks.specs.same.Steps.{is_ok}
 use Rattle.once_across_breaks_drill.specs.rounds.Laws.{CallsAreTold}
 use Rattle.once_across_breaks_drill.specs.rounds.Lines.{LineState, ServesLine}
-use Rattle.once_across_breaks_drill.specs.rounds.Linked.{Asks, IsAnswered, IsLinked, IsServed, TellsOk, WaitsFor, waits}
+use Rattle.once_across_breaks_drill.specs.rounds.Linked.{Asks, IsAnswered, IsLinked, IsServed, WaitsFor, waits}
 use Rattle.once_across_breaks_drill.specs.rounds.Rounds.{IsAsked, IsRound, waiting_does}
 use Rattle.once_across_breaks_drill.specs.declared.rounds.calls.Answered.{Answered}
 use Rattle.once_across_breaks_drill.specs.declared.rounds.opening.Linked.{Linked}
@@ -81,21 +79,17 @@ call-asked now token id next call l request t x =
       kind = λ c block. (waiting-taken l.caller (waits id call) id call c block ready waiting refl).1;
     }
 
-same-ok : (c : Code) (block : List ℕ) → is_ok_code c ≡ is_ok (tells.Reply c block false)
-same-ok code.Ok block = refl
-same-ok c block = refl
-
-same-told : (c d : Code) (a b : List ℕ) → events.Told c a ≡ events.Told d b → c ≡ d
+same-told : (c d : Code) (a b : List ℕ) → events.Told c a ≡ events.Told d b → tells.Reply d b false ≡ tells.Reply c a false
 same-told c d a b e = cc
 
 pub is-answered : (now : ℕ) (token : List ℕ) (id next : ℕ) (call : Call) (old : Linked) (request out : List ℕ) (t : Shown) (r : Round) (a : Answered) (after : List ℕ) (u : Shown) → WaitsFor token id next call old request
-    → IsRound now old.link id call (waiting_does old.caller (waits id call)) old.line out t r after u → TellsOk a.ok r.event → a.linked.caller ≡ r.caller → a.linked.line ≡ r.line → a.linked.link ≡ old.link
+    → IsRound now old.link id call (waiting_does old.caller (waits id call)) old.line out t r after u → r.event ≡ events.Told a.answer.code a.answer.block → a.linked.caller ≡ r.caller → a.linked.line ≡ r.line → a.linked.link ≡ old.link
     → IsAnswered now token id next call old t a u
-is-answered now token id next call old request out t r a after u x y (d, other, event, ok) caller line link =
+is-answered now token id next call old request out t r a after u x y event caller line link =
     let c = y.tells.code in
     let block = y.tells.block in
-    let goes = told-goes old.caller (waits id call) c d block other (sym y.event ∙ event) in
-    let same : c ≡ d = same-told c d block other (sym (ap (λ (s : Step). s.event) goes) ∙ sym y.event ∙ event) in
+    let goes = told-goes old.caller (waits id call) c a.answer.code block a.answer.block (sym y.event ∙ event) in
+    let same : events.Told c block ≡ events.Told a.answer.code a.answer.block = sym (ap (λ (s : Step). s.event) goes) ∙ sym y.event ∙ event in
     record {
       linked = record {
         state = caller ∙ y.state ∙ ap (λ (s : Step). s.state) goes ∙ ap (λ (s : ClientState). record s { waiting = None }) x.linked.state;
@@ -103,10 +97,7 @@ is-answered now token id next call old request out t r a after u x y (d, other, 
         small = x.linked.small;
       };
       link = link;
-      code = c;
-      block = block;
-      told = y.tells.told;
-      ok = ok ∙ ap is_ok_code (sym same) ∙ same-ok c block ∙ ap is_ok (sym y.tells.told);
+      told = same-told c a.answer.code block a.answer.block same ∙ sym y.tells.told;
       start = y.tells.start;
       history = y.tells.history;
     }

@@ -1,8 +1,10 @@
 -- A step, and all of them.
 use Rattle.std.proofs.Common.{◌≡◌, ◌∙◌, refl, sym, ap, subst, ℕ, zero, suc, ◌+◌, ◌-◌, ◌<◌, ◌≤◌, ◌^◌, Bool, true, false, cond, List, [], ◌∷◌, ◌++◌, Option, Some, None, inl, inr, append-nil, append_assoc, arith, lit<}
-use Rattle.std.specs.Prelude.{◌==◌, ◌%◌, count_by, not, Result, Ok, Err, OnOk}
+use Rattle.std.specs.Prelude.{◌==◌, ◌%◌, count_by, map, not, Result, Ok, Err, IfOk, OnOk}
 use Rattle.std.proofs.lemmas.Bool.{cases_lt, cond_both, eqb-false}
+use Rattle.std.proofs.lemmas.List.{map-append}
 use Rattle.std.proofs.lemmas.List.Sums.{sum_by-cons}
+use Rattle.afp_base.specs.declared.bytes.OutOfMemory.{OutOfMemory}
 use Rattle.afp_calls_grammar.specs.declared.grammar.call.Call.{Call}
 use Rattle.afp_client.specs.session.State.{is_of_opening}
 use Rattle.afp_serial.proofs.Grows.{stand-append}
@@ -17,9 +19,9 @@ use Rattle.capture_made.specs.requests.Drawing.{drawn, next_state}
 use Rattle.capture_made.specs.requests.Requests.{call_of, close_fork, create_file, delete, enumerate, lock, most_steps, open_fork, rename, write}
 use Rattle.once_across_breaks.specs.same.Steps.{Step, all_asks, breaks_in, calls_on, first_asks, is_broken, is_ok, last_ask, link_behind, results, step_asks}
 use Rattle.once_across_breaks.specs.declared.same.breaks.Break.{Break}
-use Rattle.once_across_breaks_drill.specs.steps.Drilling.{Drawn, drawn_after, drill_steps, first_drawn, next_step, steps_from}
+use Rattle.once_across_breaks_drill.specs.steps.Drilling.{Drawn, drawn_after, drill_steps, first_drawn, id_behind, next_step, steps_from}
 use Rattle.once_across_breaks_drill.specs.declared.steps.steps.DrillStep.{DrillStep}
-use Rattle.once_across_breaks_drill.specs.rounds.Linked.{Asks, IsAnswered, IsLinked}
+use Rattle.once_across_breaks_drill.specs.rounds.Linked.{Asks, IsAnswered, IsLinked, as_told}
 use Rattle.once_across_breaks_drill.specs.declared.rounds.calls.Answered.{Answered}
 use Rattle.once_across_breaks_drill.specs.declared.rounds.opening.Linked.{Linked}
 use Rattle.once_across_breaks_drill.specs.declared.run.breaking.Reached.{Reached}
@@ -66,7 +68,7 @@ makes-step now token id call breaks old asked out after t v u r a x y z =
     record {
       linked = z.linked;
       link = z.link ∙ link;
-      ok = z.ok ∙ (λ i. is_ok (answer (stands i) (calls_on (link i) now id call)));
+      told = z.told ∙ (λ i. answer (stands i) (calls_on (link i) now id call));
       start = z.start ∙ y.start;
       history = z.history
           ∙ ap (λ (h : List Entry). h ++ calls_on r.linked.link now id call ∷ []) y.history
@@ -75,16 +77,26 @@ makes-step now token id call breaks old asked out after t v u r a x y z =
     }
 
 pub goes-step : (token : List ℕ) (d : Drawn) (s : DrillStep) (old g : Going) (a : Answered) (t u : Shown) → step_of d.id s ≡ next_step d → MakesStep token (step_of d.id s) old.linked t a u
-    → g.linked ≡ a.linked → CountsStep s.breaks a.ok old.counts g.counts → GoesStep token (next_step d) old t g u
-goes-step token d s old g a t u is made linked counts =
+    → g.linked ≡ a.linked → CountsStep s.breaks (is_ok (as_told a.answer)) old.counts g.counts → g.results.items ≡ old.results.items ++ a.answer ∷ [] → GoesStep token (next_step d) old t g u
+goes-step token d s old g a t u is made linked counts kept =
     subst (λ (x : Step). GoesStep token x old t g u) is
     (record {
       linked = subst (λ (l : Linked). IsLinked token None (id_after d.id) l) (sym linked) made.linked;
       link = ap (λ (l : Linked). l.link) linked ∙ made.link;
-      counts = subst (λ (b : Bool). CountsStep s.breaks b old.counts g.counts) made.ok counts;
+      counts = subst (λ (o : Told). CountsStep s.breaks (is_ok o) old.counts g.counts) made.told counts;
+      kept = ap (map as_told) kept ∙ map-append as_told old.results.items (a.answer ∷ []) ∙ ap (λ (o : Told). map as_told old.results.items ++ o ∷ []) made.told;
       start = made.start;
       history = made.history;
     })
+
+-- what holds of each step holds of the one that is made
+pub step-goes : (r : Result Going OutOfMemory) (old : Going) (a : Answered) (breaks : Break) (d : Drawn) (t u : Shown)
+    → IfOk r (λ g. g.linked ≡ a.linked) → IfOk r (λ g. CountsStep breaks (is_ok (as_told a.answer)) old.counts g.counts) → IfOk r (λ g. g.results.items ≡ old.results.items ++ a.answer ∷ [])
+    → ((g : Going) (token : List ℕ) → d.id < 2 ^ 16 → IsLinked token None d.id old.linked → g.linked ≡ a.linked → CountsStep breaks (is_ok (as_told a.answer)) old.counts g.counts → g.results.items ≡ old.results.items ++ a.answer ∷ []
+    → GoesStep token (next_step d) old t g u)
+    → IfOk r (λ g. (token : List ℕ) → d.id < 2 ^ 16 → IsLinked token None d.id old.linked → GoesStep token (next_step d) old t g u)
+step-goes (Ok g) old a breaks d t u linked counts kept goes = λ token small is. goes g token small is linked counts kept
+step-goes (Err e) old a breaks d t u linked counts kept goes = tt
 
 -- ---- all steps
 
@@ -94,13 +106,16 @@ id-small id word = cond_both (id == 65535) 0 (id + 1) (λ n. n < 2 ^ 16) (λ las
   | inr more ↦ absurd (eqb-false id 65535 other (omega (arith, word, more)))
 ])
 
-pub has-all : (token : List ℕ) (number steps : ℕ) (t : Shown) (g : Going) (d : Drawn) → g.counts ≡ no_counts → d ≡ first_drawn number → IsLinked token None 4 g.linked → HasLeft token number steps g.linked t steps d g t
+pub has-all : (token : List ℕ) (number steps : ℕ) (t : Shown) (g : Going) (d : Drawn) → g.counts ≡ no_counts → d ≡ first_drawn number → IsLinked token None 4 g.linked
+    → HasLeft token number steps g.linked (map as_told g.results.items) t steps d g t
 has-all token number steps t g d counts is linked =
-    let none : (c : Counts) → c ≡ no_counts → HasLeft token number steps g.linked t steps (first_drawn number) (record { linked = g.linked; counts = c }) t = λ c same.
+    let none : (c : Counts) → c ≡ no_counts → HasLeft token number steps g.linked (map as_told g.results.items) t steps (first_drawn number) (record { linked = g.linked; counts = c; results = g.results }) t = λ c same.
     let breaks = ap (λ (x : Counts). x.breaks) same in
     let ok = ap (λ (x : Counts). x.ok) same in
     let refused = ap (λ (x : Counts). x.refused) same in
     record {
+      ids = refl;
+      kept = refl;
       made = omega arith;
       small = lit< tt;
       linked = linked;
@@ -111,14 +126,14 @@ has-all token number steps t g d counts is linked =
       refused = from-none c.refused (count_by is_refused (results (stand t.start t.history) token g.linked.link (drill_steps number steps))) refused;
       all = omega (arith, ok, refused);
     } in
-    subst (λ (x : Drawn). HasLeft token number steps g.linked t steps x g t) (sym is) (none g.counts counts)
+    subst (λ (x : Drawn). HasLeft token number steps g.linked (map as_told g.results.items) t steps x g t) (sym is) (none g.counts counts)
   where
     from-none : (a b : ℕ) → a ≡ 0 → a + b ≡ b
     from-none a b h = omega (arith, h)
 
-pub has-next : (token : List ℕ) (number steps : ℕ) (first : Linked) (t : Shown) (n : ℕ) (d : Drawn) (g g' : Going) (v u : Shown) → HasLeft token number steps first t (suc n) d g v → GoesStep token (next_step d) g v g' u
-    → HasLeft token number steps first t n (drawn_after d) g' u
-has-next token number steps first t n d g g' v u x y =
+pub has-next : (token : List ℕ) (number steps : ℕ) (first : Linked) (before : List Told) (t : Shown) (n : ℕ) (d : Drawn) (g g' : Going) (v u : Shown) → HasLeft token number steps first before t (suc n) d g v → GoesStep token (next_step d) g v g' u
+    → HasLeft token number steps first before t n (drawn_after d) g' u
+has-next token number steps first before t n d g g' v u x y =
     let s : Step = next_step d in
     let rest : List Step = steps_from (drawn_after d) n in
     let w : World = stand v.start v.history in
@@ -137,6 +152,8 @@ has-next token number steps first t n d g g' v u x y =
     let refused' = y.counts.refused_is in
     let one : one_if (is_ok told) + one_if (is_refused told) ≡ 1 = both (is_ok told) in
     record {
+      ids = x.ids;
+      kept = (λ i. y.kept i ++ same i) ∙ append_assoc (map as_told g.results.items) (told ∷ []) later ∙ x.kept;
       made = omega (arith, made);
       small = id-small d.id x.small;
       linked = y.linked;
@@ -159,24 +176,28 @@ has-next token number steps first t n d g g' v u x y =
     all-on steps n a b x y x' y' p q r e = omega (arith, p, q, r, e)
 
 -- one less is left
-pub has-less : (token : List ℕ) (number steps : ℕ) (first : Linked) (t : Shown) (left : ℕ) (d : Drawn) (g g' : Going) (v u : Shown) → 0 < left → HasLeft token number steps first t left d g v → GoesStep token (next_step d) g v g' u
-    → HasLeft token number steps first t (left - 1) (drawn_after d) g' u
-has-less token number steps first t zero d g g' v u some x y = absurd (no some)
+pub has-less : (token : List ℕ) (number steps : ℕ) (first : Linked) (before : List Told) (t : Shown) (left : ℕ) (d : Drawn) (g g' : Going) (v u : Shown) → 0 < left → HasLeft token number steps first before t left d g v → GoesStep token (next_step d) g v g' u
+    → HasLeft token number steps first before t (left - 1) (drawn_after d) g' u
+has-less token number steps first before t zero d g g' v u some x y = absurd (no some)
   where
     no : 0 < 0 → ⊥
     no h = omega (arith, h)
-has-less token number steps first t (suc n) d g g' v u some x y =
+has-less token number steps first before t (suc n) d g g' v u some x y =
     let same : n ≡ suc n - 1 = omega arith in
-    subst (λ (k : ℕ). HasLeft token number steps first t k (drawn_after d) g' u) same (has-next token number steps first t n d g g' v u x y)
+    subst (λ (k : ℕ). HasLeft token number steps first before t k (drawn_after d) g' u) same (has-next token number steps first before t n d g g' v u x y)
 
-pub runs-steps : (token : List ℕ) (number steps : ℕ) (first : Linked) (t : Shown) (left : ℕ) (d : Drawn) (g : Going) (u : Shown) → left ≡ 0 → HasLeft token number steps first t left d g u → RunsSteps token number steps first t g u
-runs-steps token number steps first t left d g u none h =
-    let x : HasLeft token number steps first t 0 d g u = subst (λ (k : ℕ). HasLeft token number steps first t k d g u) none h in
+pub runs-steps : (token : List ℕ) (number steps : ℕ) (first : Linked) (before : List Told) (t : Shown) (left : ℕ) (d : Drawn) (g : Going) (u : Shown) → left ≡ 0 → HasLeft token number steps first before t left d g u
+    → RunsSteps token number steps first before t g u
+runs-steps token number steps first before t left d g u none h =
+    let x : HasLeft token number steps first before t 0 d g u = subst (λ (k : ℕ). HasLeft token number steps first before t k d g u) none h in
     let breaks : g.counts.breaks + 0 ≡ breaks_in (drill_steps number steps) = x.breaks in
     let ok : g.counts.ok + 0 ≡ count_by is_ok (results (stand t.start t.history) token first.link (drill_steps number steps)) = x.ok in
     let refused : g.counts.refused + 0 ≡ count_by is_refused (results (stand t.start t.history) token first.link (drill_steps number steps)) = x.refused in
     let all = x.all in
+    let ids : d.id ≡ id_behind 4 steps = x.ids in
     record {
+      linked = subst (λ (n : ℕ). IsLinked token None n g.linked) ids x.linked;
+      kept = sym (append-nil (map as_told g.results.items)) ∙ x.kept;
       start = x.start;
       history = sym (append-nil u.history) ∙ x.history;
       breaks = omega (arith, breaks);
@@ -189,5 +210,5 @@ runs-steps token number steps first t left d g u none h =
     plus-none n = omega arith
 
 -- more steps may be drawn
-pub more-left : (token : List ℕ) (number steps : ℕ) (first : Linked) (t : Shown) (left : ℕ) (d : Drawn) (g : Going) (u : Shown) → steps ≤ most_steps → 0 < left → HasLeft token number steps first t left d g u → d.made < most_steps
-more-left token number steps first t left d g u most some x = let made = x.made in omega (arith, most, some, made)
+pub more-left : (token : List ℕ) (number steps : ℕ) (first : Linked) (before : List Told) (t : Shown) (left : ℕ) (d : Drawn) (g : Going) (u : Shown) → steps ≤ most_steps → 0 < left → HasLeft token number steps first before t left d g u → d.made < most_steps
+more-left token number steps first before t left d g u most some x = let made = x.made in omega (arith, most, some, made)

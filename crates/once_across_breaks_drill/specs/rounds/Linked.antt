@@ -1,13 +1,12 @@
 -- A client without a name that has its session's token, on a link that is opened (this profile).
-use Rattle.std.specs.Prelude.{◌≡◌, ◌≤◌, ℕ, suc, Bool, false, List, [], ◌∷◌, ◌++◌, length, Option, Some, None}
+use Rattle.std.specs.Prelude.{◌≡◌, ◌≤◌, ℕ, suc, false, List, [], ◌∷◌, ◌++◌, length, Option, Some, None}
+use Rattle.afp_base.specs.Cached.{Answer}
 use Rattle.afp_base.specs.declared.code.Code.{Code}
 use Rattle.afp_base.specs.declared.code.Code.TheVariants as code
 use Rattle.afp_calls_grammar.specs.declared.grammar.call.Call.{Call}
 use Rattle.afp_client.specs.session.Opening.{command_frame, session_call}
 use Rattle.afp_client.specs.session.State.{Waiting, call_frame}
-use Rattle.afp_client.specs.session.Takes.{is_ok as is_ok_code, most_token, token_in}
-use Rattle.afp_client.specs.declared.session.event.Event.{Event}
-use Rattle.afp_client.specs.declared.session.event.Event.TheVariants as events
+use Rattle.afp_client.specs.session.Takes.{most_token, token_in}
 use Rattle.afp_client.specs.declared.session.stage.OpeningStep.TheVariants as steps
 use Rattle.afp_client.specs.declared.session.stage.Stage.TheVariants.{Opening, Ready}
 use Rattle.afp_serial.specs.Answer.{answer, link_number}
@@ -16,11 +15,12 @@ use Rattle.afp_serial.specs.Household.{Household}
 use Rattle.afp_serial.specs.Shown.{Shown}
 use Rattle.afp_serial.specs.Token.{session_token}
 use Rattle.afp_serial.specs.World.{fresh_world}
+use Rattle.afp_serial.specs.declared.ask.Told.{Told}
 use Rattle.afp_serial.specs.declared.ask.Told.TheVariants as tells
 use Rattle.afp_server.specs.declared.link.stage.Stage.TheVariants.{Open}
 use Rattle.dsi_frame.specs.Frame.{IsGood, canonical_frame}
 use Rattle.dsi_session.specs.RequestIds.{id_after}
-use Rattle.once_across_breaks.specs.same.Steps.{asks_token, calls_on, is_ok, login, rejoins}
+use Rattle.once_across_breaks.specs.same.Steps.{asks_token, calls_on, login, rejoins}
 use Rattle.once_across_breaks_drill.specs.rounds.Laws.{opening, sweep}
 use Rattle.once_across_breaks_drill.specs.rounds.Lines.{LineState}
 use Rattle.once_across_breaks_drill.specs.declared.rounds.opening.Linked.{Linked}
@@ -79,18 +79,15 @@ pub record WaitsFor (token : List ℕ) (id next : ℕ) (call : Call) (l : Linked
   pub linked : IsLinked token (Some (waits id call)) next l
   pub written : IsWritten id call request
 
--- the event is a result, and this says whether it is Ok
-abbrev pub TellsOk : Bool → Event → Type 0
-TellsOk ok event = (code : Code) × (block : List ℕ) × (event ≡ events.Told code block) × (ok ≡ is_ok_code code)
+-- a result of a call, as the answer to its ask
+abbrev pub as_told : Answer → Told
+as_told a = tells.Reply a.code a.block false
 
 -- The call is one entry. What it is told comes to the client, which waits for nothing.
 pub record IsAnswered (now : ℕ) (token : List ℕ) (id next : ℕ) (call : Call) (old : Linked) (t : Shown) (a : Answered) (u : Shown) : Type 0 where
   pub linked : IsLinked token None next a.linked
   pub link : a.linked.link ≡ old.link
-  pub code : Code
-  pub block : List ℕ
-  pub told : answer (stand t.start t.history) (calls_on old.link now id call) ≡ tells.Reply code block false
-  pub ok : a.ok ≡ is_ok (answer (stand t.start t.history) (calls_on old.link now id call))
+  pub told : as_told a.answer ≡ answer (stand t.start t.history) (calls_on old.link now id call)
   pub start : u.start ≡ t.start
   pub history : u.history ≡ t.history ++ calls_on old.link now id call ∷ []
 

@@ -1,16 +1,18 @@
 -- A drill: which steps its client makes, by a number (this profile).
-use Rattle.std.specs.Prelude.{ℕ, zero, suc, ◌+◌, ◌%◌, ◌==◌, if◌then◌else◌, List, [], ◌∷◌, replicate, codes, map}
+use Rattle.std.specs.Prelude.{ℕ, zero, suc, ◌+◌, ◌%◌, ◌==◌, if◌then◌else◌, List, [], ◌∷◌, ◌++◌, replicate, codes, map}
 use Rattle.dsi_session.specs.RequestIds.{id_after}
+use Rattle.afp_serial.specs.Answer.{answer}
+use Rattle.afp_serial.specs.History.{stand}
 use Rattle.afp_serial.specs.Household.{Household, household}
 use Rattle.afp_serial.specs.Token.{session_token}
-use Rattle.afp_serial.specs.World.{World}
+use Rattle.afp_serial.specs.World.{World, fresh_world}
 use Rattle.afp_serial.specs.declared.ask.Told.{Told}
 use Rattle.capture_made.specs.requests.Drawing.{drawn, next_state, number_of, state_after}
-use Rattle.capture_made.specs.requests.Requests.{call_of, first_moment}
+use Rattle.capture_made.specs.requests.Requests.{call_of, first_moment, open_volume}
 use Rattle.once_across_breaks.specs.same.Laws.{opened_world}
 use Rattle.once_across_breaks.specs.declared.same.breaks.Break.{Break}
 use Rattle.once_across_breaks.specs.declared.same.breaks.Break.TheVariants.{Before, Behind, Never}
-use Rattle.once_across_breaks.specs.same.Steps.{Step, results, unbroken}
+use Rattle.once_across_breaks.specs.same.Steps.{Step, asks_token, begins, calls_on, results, unbroken}
 
 -- the house: no user, and one volume; its signature is that of the examples, and its key has only zeros
 abbrev pub house : Household
@@ -56,8 +58,21 @@ drill_steps number count = steps_from (first_drawn number) count
 abbrev pub first_world : World
 first_world = opened_world house first_moment 0x20 (codes "Share")
 
+-- what a client is told of FPOpenVol in its opening
+abbrev pub told_opening : Household → ℕ → Told
+told_opening h moment = answer (stand (fresh_world h moment) (begins moment ++ calls_on 1 moment 2 asks_token ∷ [])) (calls_on 1 moment 3 open_volume)
+
 abbrev pub token : List ℕ
 token = session_token house.token_key 1
+
+-- what it is told of that FPOpenVol
+abbrev pub volume_told : Told
+volume_told = told_opening house first_moment
+
+-- its next id behind so many steps
+abbrev pub id_behind : ℕ → ℕ → ℕ
+id_behind id zero = id
+id_behind id (suc count) = id_behind (id_after id) count
 
 -- what the client is told of its steps' calls; and what it is told of them where no link breaks
 abbrev pub drilled : ℕ → ℕ → List Told

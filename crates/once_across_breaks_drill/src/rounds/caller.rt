@@ -56,6 +56,13 @@ impl Caller {
         Ok(Caller { client, came: 0 })
     }
 
+    /// The client itself.
+    pub fn into_client(self) -> ClientCore
+        ensures { result.state ≡ self }
+    {
+        self.client
+    }
+
     /// Whether the client can be asked: its link is opened, and no request waits.
     pub fn ready(&self) -> bool
         ensures { IsTrue result ↔ IsReady self.now }

@@ -3,19 +3,21 @@ ghost use Rattle.std.specs.Prelude.{◌≡◌, ◌+◌, ◌<◌, ◌≤◌, ◌^
 ghost use Rattle.afp_base.specs.Limits.{payload_limit};
 ghost use Rattle.afp_calls_grammar.specs.grammar.Call.{IsSpellable, canonical_call, canonical_piece};
 ghost use Rattle.afp_calls_grammar.specs.declared.grammar.call.Call.{Call};
+ghost use Rattle.afp_client.specs.declared.session.event.Event.{Event};
 ghost use Rattle.afp_client.specs.session.State.{is_of_opening};
 ghost use Rattle.afp_server.specs.declared.link.stage.Stage.{Stage};
 ghost use Rattle.afp_serial.specs.Answer.{link_number};
-ghost use Rattle.once_across_breaks_drill.specs.rounds.Linked.{Asks, IsAnswered, IsLinked, IsServed, IsWritten, TellsOk, WaitsFor};
+ghost use Rattle.once_across_breaks_drill.specs.rounds.Linked.{Asks, IsAnswered, IsLinked, IsServed, IsWritten, WaitsFor};
 
 use crate::rounds::laws::requests_are_told_in_order;
 use crate::rounds::line::Line;
 use crate::rounds::opening::Linked;
 use crate::rounds::round::call_round;
-use afp_base::{Bytes, Code, Moment, OutOfMemory};
+use afp_base::{Bytes, Moment, OutOfMemory};
 use afp_calls_grammar::Call;
 use afp_client::{Event, fits_frame};
 use capture_log_server::SoleTeller;
+use replay_cache::Answer;
 use std::alloc::Global;
 
 /// A call fits in a frame. One that does not is told as want of memory.
@@ -53,19 +55,19 @@ pub fn ask_call(
     })
 }
 
-/// The client behind a call, and whether that was told Ok.
+/// The client behind a call, and what that was told.
 #[derive(Drop)]
 pub struct Answered {
     pub linked: Linked,
-    pub ok: bool,
+    pub answer: Answer,
 }
 
-/// Whether a call was told Ok. An event that is no result is told as want of memory.
-fn is_ok(event: &Event) -> Result<bool, OutOfMemory>
-    ensures { IfOk result (λ ok. TellsOk ok event.now) }
+/// What a call was told. An event that is no result is told as want of memory.
+fn answer_of(event: Event) -> Result<Answer, OutOfMemory>
+    ensures { IfOk result (λ answer. event ≡ Event.Told answer.code answer.block) }
 {
     match event {
-        Event::Told { code, .. } => Ok(matches!(code, Code::Ok)),
+        Event::Told { code, block } => Ok(Answer { code, block }),
         _ => Err(OutOfMemory),
     }
 }
@@ -94,14 +96,14 @@ pub fn told_round<T: SoleTeller>(
     )? {
         None => Err(OutOfMemory),
         Some(round) => {
-            let ok = is_ok(&round.event)?;
+            let answer = answer_of(round.event)?;
             Ok(Answered {
                 linked: Linked {
                     caller: round.caller,
                     line: round.line,
                     link: linked.link,
                 },
-                ok,
+                answer,
             })
         }
     }

@@ -4,7 +4,7 @@ ghost use Rattle.capture_log_server.specs.Sole.{IsFreshTeller};
 ghost use Rattle.once_across_breaks_drill.specs.rounds.Linked.{IsLinked};
 ghost use Rattle.once_across_breaks_drill.specs.run.lemma.Going.{AsksVolume, Begins};
 
-use crate::rounds::{Linked, ask_call, open_first};
+use crate::rounds::{Answered, Linked, ask_call, open_first};
 use crate::run::breaking::{Reached, tell};
 use afp_base::{Bytes, Moment, OutOfMemory};
 use afp_serial::House;
@@ -26,18 +26,17 @@ fn ask_volume(alloc: Global, linked: Linked) -> Result<Reached, OutOfMemory>
     })
 }
 
-/// The client opens its first link, and a volume there. The one error is want of memory.
+/// The client opens its first link, and a volume there: what it is told of that. The one error is want of memory.
 pub(crate) fn begin<T: SoleTeller>(
     alloc: Global,
     house: &House,
     now: Moment,
     teller: &mut T,
-) -> Result<Linked, OutOfMemory>
+) -> Result<Answered, OutOfMemory>
     requires { IsFreshTeller house.now now (T.shown teller.old) }
-    ensures { IfOk result (λ l. Begins house.now now l (T.shown teller.new)) }
+    ensures { IfOk result (λ a. Begins house.now now a (T.shown teller.new)) }
 {
     let linked = open_first(alloc, house, now, teller)?;
     let asked = ask_volume(alloc, linked)?;
-    let answered = tell(alloc, asked, now, teller)?;
-    Ok(answered.linked)
+    tell(alloc, asked, now, teller)
 }

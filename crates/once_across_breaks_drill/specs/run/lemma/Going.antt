@@ -1,5 +1,5 @@
 -- Where a drill has come; no public contract cites it.
-use Rattle.std.specs.Prelude.{◌≡◌, ◌<◌, ◌^◌, ℕ, suc, ◌+◌, Bool, not, if◌then◌else◌, count_by, codes, List, [], ◌∷◌, ◌++◌, Some, None}
+use Rattle.std.specs.Prelude.{◌≡◌, ◌<◌, ◌^◌, ℕ, suc, ◌+◌, Bool, not, if◌then◌else◌, count_by, map, codes, List, [], ◌∷◌, ◌++◌, Some, None}
 use Rattle.afp_calls_grammar.specs.declared.grammar.call.Call.{Call}
 use Rattle.afp_serial.specs.Answer.{answer}
 use Rattle.afp_serial.specs.History.{stand}
@@ -12,9 +12,9 @@ use Rattle.dsi_session.specs.RequestIds.{id_after}
 use Rattle.capture_made.specs.requests.Requests.{open_volume}
 use Rattle.once_across_breaks.specs.same.Steps.{Step, all_asks, breaks_in, calls_on, first_asks, is_broken, is_ok, last_ask, link_behind, opens, rejoins, results, step_asks}
 use Rattle.once_across_breaks.specs.declared.same.breaks.Break.{Break}
-use Rattle.once_across_breaks_drill.specs.steps.Drilling.{Drawn, drill_steps, steps_from}
+use Rattle.once_across_breaks_drill.specs.steps.Drilling.{Drawn, drill_steps, id_behind, steps_from, told_opening}
 use Rattle.once_across_breaks_drill.specs.declared.steps.steps.DrillStep.{DrillStep}
-use Rattle.once_across_breaks_drill.specs.rounds.Linked.{IsLinked, WaitsFor}
+use Rattle.once_across_breaks_drill.specs.rounds.Linked.{IsLinked, WaitsFor, as_told}
 use Rattle.once_across_breaks_drill.specs.declared.rounds.calls.Answered.{Answered}
 use Rattle.once_across_breaks_drill.specs.declared.rounds.opening.Linked.{Linked}
 use Rattle.once_across_breaks_drill.specs.declared.run.breaking.Reached.{Reached}
@@ -23,10 +23,11 @@ use Rattle.once_across_breaks_drill.specs.declared.run.stepping.Going.{Going}
 
 -- ---- the beginning
 
--- The client has opened the first link, and asked to open the volume.
-pub record Begins (house : Household) (now : ℕ) (l : Linked) (u : Shown) : Type 0 where
-  pub linked : IsLinked (session_token house.token_key 1) None 4 l
-  pub link : l.link ≡ 1
+-- The client has opened the first link, and was told of FPOpenVol.
+pub record Begins (house : Household) (now : ℕ) (a : Answered) (u : Shown) : Type 0 where
+  pub linked : IsLinked (session_token house.token_key 1) None 4 a.linked
+  pub link : a.linked.link ≡ 1
+  pub told : as_told a.answer ≡ told_opening house now
   pub start : u.start ≡ fresh_world house now
   pub history : u.history ≡ opens now 0x20 (codes "Share")
 
@@ -73,13 +74,20 @@ told_in t token link s = answer (stand (stand t.start t.history) (first_asks tok
 pub record MakesStep (token : List ℕ) (s : Step) (old : Linked) (t : Shown) (a : Answered) (u : Shown) : Type 0 where
   pub linked : IsLinked token None (id_after s.id) a.linked
   pub link : a.linked.link ≡ link_behind old.link s.breaks
-  pub ok : a.ok ≡ is_ok (told_in t token old.link s)
+  pub told : as_told a.answer ≡ told_in t token old.link s
   pub start : u.start ≡ t.start
   pub history : u.history ≡ t.history ++ step_asks token old.link s
 
 -- one, where a test passes
 abbrev pub one_if : Bool → ℕ
 one_if b = if b then 1 else 0
+
+-- the counts of a drill
+pub record EndsCounts (steps : ℕ) (g : Going) (commands breaks ok refused : ℕ) : Type 0 where
+  pub commands_are : commands ≡ steps
+  pub breaks_are : breaks ≡ g.counts.breaks
+  pub ok_is : ok ≡ g.counts.ok
+  pub refused_is : refused ≡ g.counts.refused
 
 -- before the first step
 abbrev pub no_counts : Counts
@@ -91,11 +99,12 @@ pub record CountsStep (breaks : Break) (ok : Bool) (old new : Counts) : Type 0 w
   pub ok_is : new.ok ≡ old.ok + one_if ok
   pub refused_is : new.refused ≡ old.refused + one_if (not ok)
 
--- the step, and its counts
+-- the step, its counts and its result
 pub record GoesStep (token : List ℕ) (s : Step) (old : Going) (t : Shown) (g : Going) (u : Shown) : Type 0 where
   pub linked : IsLinked token None (id_after s.id) g.linked
   pub link : g.linked.link ≡ link_behind old.linked.link s.breaks
   pub counts : CountsStep s.breaks (is_ok (told_in t token old.linked.link s)) old.counts g.counts
+  pub kept : map as_told g.results.items ≡ map as_told old.results.items ++ told_in t token old.linked.link s ∷ []
   pub start : u.start ≡ t.start
   pub history : u.history ≡ t.history ++ step_asks token old.linked.link s
 
@@ -104,8 +113,10 @@ pub record GoesStep (token : List ℕ) (s : Step) (old : Going) (t : Shown) (g :
 abbrev pub is_refused : Told → Bool
 is_refused told = not (is_ok told)
 
--- So many steps are left: with them all is asked, and all are counted.
-pub record HasLeft (token : List ℕ) (number steps : ℕ) (first : Linked) (t : Shown) (left : ℕ) (d : Drawn) (g : Going) (u : Shown) : Type 0 where
+-- So many steps are left: with them all is asked, all is told, and all are counted.
+pub record HasLeft (token : List ℕ) (number steps : ℕ) (first : Linked) (before : List Told) (t : Shown) (left : ℕ) (d : Drawn) (g : Going) (u : Shown) : Type 0 where
+  pub ids : id_behind d.id left ≡ id_behind 4 steps
+  pub kept : map as_told g.results.items ++ results (stand u.start u.history) token g.linked.link (steps_from d left) ≡ before ++ results (stand t.start t.history) token first.link (drill_steps number steps)
   pub made : d.made + left ≡ steps
   pub small : d.id < 2 ^ 16
   pub linked : IsLinked token None d.id g.linked
@@ -116,7 +127,9 @@ pub record HasLeft (token : List ℕ) (number steps : ℕ) (first : Linked) (t :
   pub refused : g.counts.refused + count_by is_refused (results (stand u.start u.history) token g.linked.link (steps_from d left)) ≡ count_by is_refused (results (stand t.start t.history) token first.link (drill_steps number steps))
   pub all : g.counts.ok + g.counts.refused + left ≡ steps
 
-pub record RunsSteps (token : List ℕ) (number steps : ℕ) (first : Linked) (t : Shown) (g : Going) (u : Shown) : Type 0 where
+pub record RunsSteps (token : List ℕ) (number steps : ℕ) (first : Linked) (before : List Told) (t : Shown) (g : Going) (u : Shown) : Type 0 where
+  pub linked : IsLinked token None (id_behind 4 steps) g.linked
+  pub kept : map as_told g.results.items ≡ before ++ results (stand t.start t.history) token first.link (drill_steps number steps)
   pub start : u.start ≡ t.start
   pub history : u.history ≡ t.history ++ all_asks token first.link (drill_steps number steps)
   pub breaks : g.counts.breaks ≡ breaks_in (drill_steps number steps)

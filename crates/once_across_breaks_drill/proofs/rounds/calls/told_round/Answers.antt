@@ -21,7 +21,7 @@ returns g c = λ token id next call awaits.
     let l = c.args.linked in
     let r = c.in-Some.round in
     let does = waiting_does l.caller (waits id call) in
-    is-answered c.args.now token id next call l c.args.request.now c.new-out.result t r (record { linked = record { caller = r.caller; line = r.line; link = l.link }; ok = c.in_ok-ok-in-Some.ok }) c.call_round.new.out u awaits
+    is-answered c.args.now token id next call l c.args.request.now c.new-out.result t r (record { linked = record { caller = r.caller; line = r.line; link = l.link }; answer = c.in_ok-answer-in-Some.answer }) c.call_round.new.out u awaits
     (came c.args.now l.link id call does l.line c.new-out.result t c.in_ok-call_round.field-0 r c.call_round.new.out u c.in-Some.is
     (c.in_ok-call_round.ensures l.link id call does (call-asked c.args.now token id next call l c.args.request.now t awaits)))
-    c.in_ok-ok-in-Some.ensures refl refl refl
+    c.in_ok-answer-in-Some.ensures refl refl refl
