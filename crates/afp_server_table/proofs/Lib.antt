@@ -1,0 +1,4 @@
+pub mod Keeping
+pub mod Numbers
+pub mod Served
+pub mod Standing
