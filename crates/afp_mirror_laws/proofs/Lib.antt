@@ -1,3 +1,4 @@
 pub mod RowLemmas
 pub mod SweptLemmas
 pub mod PairedLemmas
+pub mod ReachedLemmas

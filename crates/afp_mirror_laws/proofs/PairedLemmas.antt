@@ -27,16 +27,16 @@ use Rattle.afp_mirror.specs.Runs.{IsTurn, Leads, Turn, seen}
 use Rattle.afp_mirror_laws.specs.Swept.{Listing, listing, lists_of, rows_told}
 use Rattle.afp_mirror_laws.proofs.SweptLemmas.{IsMore, first-asked, found-more, listing_at, no-page, node-asked, not-done, ok-page, page-not-done, some-asked, turn-lists}
 
-abbrev made_source : Made → NodeId
+abbrev pub made_source : Made → NodeId
 made_source node = node.source
 
 abbrev made_target : Made → NodeId
 made_target node = node.target
 
-abbrev found_id : Found → NodeId
+abbrev pub found_id : Found → NodeId
 found_id f = f.id
 
-abbrev known : Standing → List NodeId
+abbrev pub known : Standing → List NodeId
 known w = map made_source w.nodes ++ map found_id w.page
 
 -- the lines' ids are these, and what the turns to come give and show
@@ -111,15 +111,15 @@ Keeps rest (ends (changed node place)) = Unit {0}
 
 -- ---- tests
 
-if-any : (P : Next → Type 0) (b : Bool) (x y : Next) → P x → P y → P (if b then x else y)
+pub if-any : (P : Next → Type 0) (b : Bool) (x y : Next) → P x → P y → P (if b then x else y)
 if-any P true x y h k = h
 if-any P false x y h k = k
 
-if-by : (P : Next → Type 0) (b : Bool) (x y : Next) → (b ≡ true → P x) → (b ≡ false → P y) → P (if b then x else y)
+pub if-by : (P : Next → Type 0) (b : Bool) (x y : Next) → (b ≡ true → P x) → (b ≡ false → P y) → P (if b then x else y)
 if-by P true x y h k = h refl
 if-by P false x y h k = k refl
 
-needs-any : {A : Type 0} (P : Next → Type 0) (side : Side) (o : Option A) (f : A → Next) → P (ends (bad side)) → ((v : A) → P (f v)) → P (needs side o f)
+pub needs-any : {A : Type 0} (P : Next → Type 0) (side : Side) (o : Option A) (f : A → Next) → P (ends (bad side)) → ((v : A) → P (f v)) → P (needs side o f)
 needs-any P side None f fails passes = fails
 needs-any P side (Some v) f fails passes = passes v
 
@@ -135,22 +135,22 @@ read-any P side node len c reply next fails wrong passes =
     if-any P (is_ok c) more (if ends_fork c then last else ends (refused side c node)) (needs-any P side (piece_in reply) (read_of side len false next) wrong (λ piece. read-of-any P side len false next piece wrong (passes piece false)))
     (if-any P (ends_fork c) last (ends (refused side c node)) (needs-any P side (piece_in reply) (read_of side len true next) wrong (λ piece. read-of-any P side len true next piece wrong (passes piece true))) fails)
 
-must-any : (P : Next → Type 0) (c : Code) (side : Side) (node : NodeId) (next : Next) → P (ends (refused side c node)) → P next → P (must c side node next)
+pub must-any : (P : Next → Type 0) (c : Code) (side : Side) (node : NodeId) (next : Next) → P (ends (refused side c node)) → P next → P (must c side node next)
 must-any P c side node next wrong passes = if-any P (is_ok c) next (ends (refused side c node)) passes wrong
 
 goes-if : (rest : List NodeId → List NodeId → List Line → Type 0) (w : Standing) (b : Bool) (x y : Stage) → Keeps rest (goes (record w { stage = x })) → Keeps rest (goes (record w { stage = y })) → Keeps rest (goes (record w { stage = if b then x else y }))
 goes-if rest w true x y h k = h
 goes-if rest w false x y h k = k
 
-less-by : (a b : ℕ) → nat_lt a b ≡ true → a < b
+pub less-by : (a b : ℕ) → nat_lt a b ≡ true → a < b
 less-by a b h = grind (arith, nat_tests, h)
 
-past-by : (a b : ℕ) → nat_lt a b ≡ false → b ≤ a
+pub past-by : (a b : ℕ) → nat_lt a b ≡ false → b ≤ a
 past-by a b h = grind (arith, nat_tests, h)
 
 -- ---- lines of directories
 
-map-append : {A B : Type 0} (f : A → B) (xs ys : List A) → map f (xs ++ ys) ≡ map f xs ++ map f ys
+pub map-append : {A B : Type 0} (f : A → B) (xs ys : List A) → map f (xs ++ ys) ≡ map f xs ++ map f ys
 map-append f [] ys = refl
 map-append {A} {B} f (x ∷ xs) ys = ap (λ (zs : List B). f x ∷ zs) (map-append f xs ys)
 
@@ -167,7 +167,7 @@ drop-both {A} (suc m) k (x ∷ xs) =
     let same : suc m + k ≡ suc (m + k) = omega arith in
     ap (λ (n : ℕ). drop n (x ∷ xs)) same ∙ drop-both m k xs
 
-drop-past : {A : Type 0} (n : ℕ) (xs : List A) → length xs ≤ n → drop n xs ≡ []
+pub drop-past : {A : Type 0} (n : ℕ) (xs : List A) → length xs ≤ n → drop n xs ≡ []
 drop-past zero [] h = refl
 drop-past (suc n) [] h = refl
 drop-past zero (x ∷ xs) h = absurd (omega (arith, h))
@@ -255,8 +255,8 @@ is_known w given shown lines = Pairs (known w) (map made_target w.nodes) given s
 abbrev is_listed : Standing → Option (List ListEntry) → List NodeId → List NodeId → List Line → Type 0
 is_listed w rows given shown lines = Pairs (known w) (map made_target w.nodes) (given_by rows ++ given) shown lines
 
-record IdsAre (from : List Found) (rows : List ListEntry) (page : List Found) : Type 0 where
-  ids : map found_id page ≡ map found_id from ++ ids_in rows
+pub record IdsAre (from : List Found) (rows : List ListEntry) (page : List Found) : Type 0 where
+  pub ids : map found_id page ≡ map found_id from ++ ids_in rows
 
 ids-more : (from more : List Found) (row : ListEntry) (rows : List ListEntry) (page : List Found) → IsMore (found_in row.values) from more → IdsAre more rows page → IdsAre from (row ∷ rows) page
 ids-more from more row rows page m p = record {
@@ -272,7 +272,7 @@ ids-by : (nodes : List Made) (from : List Found) (row : ListEntry) (rows : List 
 ids-by nodes from row rows page (Ok more) is rest h = ids-more from more row rows page (found-more nodes from more (found_in row.values) is) (rest more h)
 ids-by nodes from row rows page (Err e) is rest h = no-page e page h
 
-ids-are : (nodes : List Made) (from : List Found) (rows : List ListEntry) (page : List Found) → page_from nodes from rows ≡ Ok page → IdsAre from rows page
+pub ids-are : (nodes : List Made) (from : List Found) (rows : List ListEntry) (page : List Found) → page_from nodes from rows ≡ Ok page → IdsAre from rows page
 unfolding page_from
 ids-are nodes from [] page h =
     let same : page ≡ from = ap (λ (r : Result (List Found) Ended). ok-page page r) (sym h) in
@@ -332,7 +332,7 @@ listed-by false false w o side c node h = tt
 abbrev is_pending : Standing → NodeId → List NodeId → List NodeId → List Line → Type 0
 is_pending w target given shown lines = Pairs (known w) (map made_target w.nodes ++ target ∷ []) given shown lines
 
-known-on : (w : Standing) (target : NodeId) (f : Found) (page : List Found) → w.page ≡ f ∷ page → map made_source (w.nodes ++ made_of w.place.here f target ∷ []) ++ map found_id page ≡ known w
+pub known-on : (w : Standing) (target : NodeId) (f : Found) (page : List Found) → w.page ≡ f ∷ page → map made_source (w.nodes ++ made_of w.place.here f target ∷ []) ++ map found_id page ≡ known w
 known-on w target f page is =
     let old : List NodeId = map made_source w.nodes in
     ap (λ (ids : List NodeId). ids ++ map found_id page) (map-append made_source w.nodes (made_of w.place.here f target ∷ []))
@@ -466,12 +466,12 @@ read-to-keeps w checking last c reply h =
     (goes-if (IsChecked w checking.index) w last (stages.ShutsFrom (record checking { len = checking.len + length piece })) (stages.ReadsFrom (record checking { len = checking.len + length piece })) (h, λ given shown lines late. late) (h, λ given shown lines late. late)) tt)
 
 -- the line of a file, and the nodes behind it
-record HasNode (nodes : List Made) (index : ℕ) : Type 0 where
-  node : Made
-  get : slice_get nodes index ≡ Some node
-  front : drop index nodes ≡ node ∷ drop (index + 1) nodes
+pub record HasNode (nodes : List Made) (index : ℕ) : Type 0 where
+  pub node : Made
+  pub get : slice_get nodes index ≡ Some node
+  pub front : drop index nodes ≡ node ∷ drop (index + 1) nodes
 
-has-node : (nodes : List Made) (index : ℕ) → index < length nodes → HasNode nodes index
+pub has-node : (nodes : List Made) (index : ℕ) → index < length nodes → HasNode nodes index
 has-node [] index h = absurd (omega (arith, h))
 has-node (node ∷ nodes) zero h = record { node = node; get = refl; front = refl }
 has-node (node ∷ nodes) (suc index) h =
@@ -526,11 +526,11 @@ step (stages.ShutsTo checking) w c reply h = shut-to-keeps w checking c h
 
 -- ---- what a turn gives and shows
 
-given-append : (xs ys : List Listing) → given_in (xs ++ ys) ≡ given_in xs ++ given_in ys
+pub given-append : (xs ys : List Listing) → given_in (xs ++ ys) ≡ given_in xs ++ given_in ys
 given-append [] ys = refl
 given-append (x ∷ xs) ys = ap (λ (ids : List NodeId). given_by x.rows ++ ids) (given-append xs ys) ∙ sym (append_assoc (given_by x.rows) (given_in xs) (given_in ys))
 
-given-of : (stage : Stage) (w : Standing) (c : Code) (reply : Reply) → given_in (listing_at stage w c reply) ≡ given_at stage w c reply
+pub given-of : (stage : Stage) (w : Standing) (c : Code) (reply : Reply) → given_in (listing_at stage w c reply) ≡ given_at stage w c reply
 given-of stages.OpensSource w c reply = refl
 given-of stages.OpensTarget w c reply = refl
 given-of stages.Looks w c reply = refl

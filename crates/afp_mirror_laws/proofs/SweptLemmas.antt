@@ -32,7 +32,7 @@ abbrev made_dirs : List Made → List NodeId
 made_dirs [] = []
 made_dirs (node ∷ nodes) = if node.dir then node.source ∷ made_dirs nodes else made_dirs nodes
 
-abbrev page_dirs : List Found → List NodeId
+abbrev pub page_dirs : List Found → List NodeId
 page_dirs [] = []
 page_dirs (f ∷ page) = if f.dir then f.id ∷ page_dirs page else page_dirs page
 
@@ -255,9 +255,9 @@ pub found-more : (nodes : List Made) (page more : List Found) (o : Option Found)
 found-more nodes page more None h = no-page (bad From) more h
 found-more nodes page more (Some f) h = more-by (was_told nodes page f.id) (nat_le most_nodes (length nodes + length page)) f page more h
 
-record PageIs (from : List Found) (rows : List ListEntry) (page : List Found) : Type 0 where
-  dirs : page_dirs page ≡ page_dirs from ++ dirs_in rows
-  count : length page ≡ length from + length rows
+pub record PageIs (from : List Found) (rows : List ListEntry) (page : List Found) : Type 0 where
+  pub dirs : page_dirs page ≡ page_dirs from ++ dirs_in rows
+  pub count : length page ≡ length from + length rows
 
 with-dir-of : (f : Found) (dirs : List NodeId) → page_dirs (f ∷ []) ++ dirs ≡ with_dir (Some f) dirs
 with-dir-of f dirs = sym (more-dirs f.dir f.id dirs [] dirs refl)
@@ -277,7 +277,7 @@ page-by : (nodes : List Made) (from : List Found) (row : ListEntry) (rows : List
 page-by nodes from row rows page (Ok more) is rest h = page-more from more row rows page (found-more nodes from more (found_in row.values) is) (rest more h)
 page-by nodes from row rows page (Err e) is rest h = no-page e page h
 
-page-is : (nodes : List Made) (from : List Found) (rows : List ListEntry) (page : List Found) → page_from nodes from rows ≡ Ok page → PageIs from rows page
+pub page-is : (nodes : List Made) (from : List Found) (rows : List ListEntry) (page : List Found) → page_from nodes from rows ≡ Ok page → PageIs from rows page
 unfolding page_from
 page-is nodes from [] page h =
     let same : page ≡ from = ap (λ (r : Result (List Found) Ended). ok-page page r) (sym h) in

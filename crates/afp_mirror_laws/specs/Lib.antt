@@ -1,3 +1,4 @@
 pub mod Rows
 pub mod Swept
 pub mod Paired
+pub mod Reached

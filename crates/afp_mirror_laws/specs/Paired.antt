@@ -1,5 +1,6 @@
 -- Each node that the source's lists give is paired with the one that was made for it (this profile).
-use Rattle.std.specs.Prelude.{◌≡◌, ℕ, if◌then◌else◌, List, [], ◌∷◌, ◌++◌, map, Option, Some, None}
+use Rattle.std.specs.List.{count_by, list_any}
+use Rattle.std.specs.Prelude.{◌≡◌, ◌==◌, ℕ, if◌then◌else◌, List, [], ◌∷◌, ◌++◌, map, Option, Some, None}
 use Rattle.afp_base.specs.declared.code.Code.{Code}
 use Rattle.afp_base.specs.declared.ids.NodeId.{NodeId}
 use Rattle.afp_calls_grammar.specs.declared.grammar.call.Call.{Call}
@@ -64,3 +65,8 @@ target_of line = line.target
 abbrev pub DonePairs : Type 0
 DonePairs = (source target : List ℕ) (turns : List Turn) (lines : List Line) → Leads (goes (first source target)) turns (ends (done lines))
     → (map source_of lines ≡ given_in (lists_of turns)) × (map target_of lines ≡ shown_in turns)
+
+-- the law: at Done each id that the source's lists gave has just one line, and any other none
+abbrev pub EachHasOneLine : Type 0
+EachHasOneLine = (source target : List ℕ) (turns : List Turn) (lines : List Line) (id : ℕ) → Leads (goes (first source target)) turns (ends (done lines))
+    → count_by (λ (line : Line). line.source.0 == id) lines ≡ (if list_any (λ (given : NodeId). given.0 == id) (given_in (lists_of turns)) then 1 else 0)

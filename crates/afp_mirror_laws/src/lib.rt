@@ -3,4 +3,7 @@
 
 mod rows;
 
-pub use rows::{every_directory_is_listed, every_node_is_paired, rows_are_exact};
+pub use rows::{
+    every_directory_is_listed, every_id_has_one_line, every_node_is_paired, rows_are_exact,
+    rows_are_exact_where_it_comes,
+};

@@ -1,5 +1,6 @@
 //! Laws. Each function says one, and does nothing.
 ghost use Rattle.afp_mirror_laws.specs.Paired as paired;
+ghost use Rattle.afp_mirror_laws.specs.Reached as reached;
 ghost use Rattle.afp_mirror_laws.specs.Rows as rows;
 ghost use Rattle.afp_mirror_laws.specs.Swept as swept;
 
@@ -24,4 +25,15 @@ pub fn every_directory_is_listed()
 /// A mirror that is Done pairs the ids that the source's lists gave, one after the other, with those of the nodes made for them.
 pub fn every_node_is_paired()
     ensures { paired.DonePairs }
+{}
+
+/// Each id that the source's lists gave has just one line of a mirror that is Done.
+pub fn every_id_has_one_line()
+    ensures { paired.EachHasOneLine }
+{}
+
+/// Wherever a mirror comes to, its rows are exact; and it ends TooMany just at the 10,001st node.
+pub fn rows_are_exact_where_it_comes()
+    ensures fit { reached.ReachedIsFit }
+    ensures too_many { reached.TooManyIsOneMore }
 {}
