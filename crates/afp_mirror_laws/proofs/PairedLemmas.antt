@@ -158,7 +158,7 @@ drop-none : {A : Type 0} (n : ℕ) → drop {A = A} n [] ≡ []
 drop-none zero = refl
 drop-none (suc n) = refl
 
-drop-both : {A : Type 0} (m k : ℕ) (xs : List A) → drop (m + k) xs ≡ drop k (drop m xs)
+pub drop-both : {A : Type 0} (m k : ℕ) (xs : List A) → drop (m + k) xs ≡ drop k (drop m xs)
 drop-both {A} zero k xs =
     let same : 0 + k ≡ k = omega arith in
     ap (λ (n : ℕ). drop n xs) same
@@ -627,7 +627,7 @@ lines_in other (ends (bad side)) = other
 lines_in other (ends (changed node place)) = other
 lines_in other (goes w) = other
 
-same-lines : (a b : List Line) → ends (done a) ≡ ends (done b) → a ≡ b
+pub same-lines : (a b : List Line) → ends (done a) ≡ ends (done b) → a ≡ b
 same-lines a b same = ap (λ (n : Next). lines_in a n) same
 
 ended-at : (e : Ended) (rest : List NodeId → List NodeId → List Line → Type 0) (turns : List Turn) (lines : List Line) → Keeps rest (ends e) → Leads (ends e) turns (ends (done lines)) → rest (given_in (lists_of turns)) (shown_in turns) lines

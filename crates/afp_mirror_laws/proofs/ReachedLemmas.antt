@@ -1,8 +1,8 @@
 -- What holds wherever a mirror comes to: its stage fits, its list begins where it may, and its nodes are few, each with an id of its own.
-use Rattle.std.proofs.Common.{◌≡◌, ◌↔◌, inl, inr, ℕ, zero, suc, ◌+◌, ◌≤◌, ◌<◌, ◌==◌, ◌^◌, Bool, true, false, not, ◌&&◌, ◌||◌, cond, if◌then◌else◌, List, [], ◌∷◌, ◌++◌, length, drop, map, Option, Some, None, Result, Ok, Err, refl, sym, ap, ◌∙◌, subst, arith, length-append}
+use Rattle.std.proofs.Common.{◌≡◌, inl, inr, ℕ, zero, suc, ◌+◌, ◌≤◌, ◌<◌, ◌==◌, ◌^◌, Bool, true, false, not, ◌||◌, cond, if◌then◌else◌, List, [], ◌∷◌, ◌++◌, length, drop, map, Option, Some, None, Result, Ok, Err, refl, sym, ap, ◌∙◌, subst, arith, length-append}
 use Rattle.std.specs.Prelude.{nat_le, nat_lt, slice_get, bytes_eq}
 use Rattle.std.specs.List.{count_by, list_all, list_any}
-use Rattle.std.proofs.lemmas.Bool.{and_parts, or_from}
+use Rattle.std.proofs.lemmas.Bool.{and_parts}
 use Rattle.std.proofs.lemmas.Bool.Decides.{nat_tests}
 use Rattle.std.proofs.lemmas.List.{append-nil, append_assoc, length-map}
 use Rattle.std.proofs.lemmas.List.Folds.{list_all-map}
@@ -16,7 +16,7 @@ use Rattle.afp_base.specs.declared.ids.NodeId.{NodeId}
 use Rattle.afp_replies.specs.declared.list.ListEntry.{ListEntry}
 use Rattle.afp_replies.specs.declared.reply.Reply.{Reply}
 use Rattle.afp_mirror_walk.specs.Asks.{root}
-use Rattle.afp_mirror_walk.specs.Follows.{Ended, Next, and_then, bad, changed, checked_from, checked_to, checking_of, close_or_read, closed_from, closed_to, compared, copying_of, dirs_before, done, ends, ends_fork, ends_list, first, first_difference, first_id, first_in, first_place, follows, follows_at, fork_in, found_file, found_id_in, goes, has_asked, is_dir_at, is_empty, is_first_dir, is_ok, last_dir, line_of, lines_with, list_or_set, listed, listed_rows, looked, made, made_first, made_of, most_nodes, must, needs, next_check, next_dir, next_made, next_place, next_set, place_at, node_in, not_empty, opened_from, opened_to, page_from, piece_in, read_from, read_of, read_piece, read_to, read_told, refused, rows_in, set_dir, set_file, set_or_check, set_or_open, shut_from, shut_or_read, shut_to, source_at, target_at, too_many, volume_in, was_told, with_found, with_page, write_or_close, written}
+use Rattle.afp_mirror_walk.specs.Follows.{Ended, Next, and_then, bad, changed, checked_from, checked_to, checking_of, close_or_read, closed_from, closed_to, compared, copying_of, dirs_before, done, ends, ends_fork, ends_list, first, first_difference, first_id, first_in, first_place, follows, follows_at, fork_in, found_file, found_id_in, goes, has_asked, is_dir_at, is_empty, is_first_dir, is_ok, last_dir, lines_with, list_or_set, listed, listed_rows, looked, made, made_first, made_of, most_nodes, must, needs, next_check, next_dir, next_made, next_place, next_set, place_at, node_in, not_empty, opened_from, opened_to, page_from, piece_in, read_from, read_of, read_piece, read_to, read_told, refused, rows_in, set_dir, set_file, set_or_check, set_or_open, shut_from, shut_or_read, shut_to, source_at, target_at, too_many, volume_in, was_told, with_found, with_page, write_or_close, written}
 use Rattle.afp_mirror_walk.specs.Settings.{found_in}
 use Rattle.afp_mirror_walk.specs.Standing.{Fits, FitsChecking, FitsCopying, Standing, most_piece}
 use Rattle.afp_mirror_walk.specs.declared.walk.ends.Line.{Line}
@@ -29,13 +29,13 @@ use Rattle.afp_mirror_walk.specs.declared.walk.standing.Made.{Made}
 use Rattle.afp_mirror_walk.specs.declared.walk.standing.Stage.{Stage}
 use Rattle.afp_mirror_walk.specs.declared.walk.standing.Stage.TheVariants as stages
 use Rattle.afp_mirror.specs.Runs.{IsTurn, Leads, Turn, seen}
-use Rattle.afp_mirror_laws.specs.Paired.{DonePairs, EachHasOneLine, given_by, given_in, ids_in, source_of}
+use Rattle.afp_mirror_laws.specs.Paired.{EachHasOneLine, given_by, given_in, ids_in, source_of}
 use Rattle.afp_mirror_laws.specs.Reached.{HasOneMore, IsOneMore, ListHasOneMore, ReachedIsFit, TooManyIsOneMore}
-use Rattle.afp_mirror_laws.specs.Rows.{IsFit, IsLongList, IsPast, IsTooMany, Reaches, TooManyIsExact, is_over}
+use Rattle.afp_mirror_laws.specs.Rows.{IsLongList, IsPast, IsTooMany, Reaches, is_over}
 use Rattle.afp_mirror_laws.specs.Swept.{Listing, listing, lists_of, rows_told}
-use Rattle.afp_mirror_laws.proofs.PairedLemmas.{IdsAre, done-pairs, found_id, given-append, given-of, if-any, if-by, ids-are, known-on, less-by, made_source, map-append, must-any, needs-any}
+use Rattle.afp_mirror_laws.proofs.PairedLemmas.{done-pairs, found_id, given-append, if-any, if-by, ids-are, known-on, less-by, made_source, map-append, must-any, needs-any}
 use Rattle.afp_mirror_laws.proofs.RowLemmas.{too-many-is-exact}
-use Rattle.afp_mirror_laws.proofs.SweptLemmas.{IsMore, PageIs, found-more, listing_at, no-page, ok-page, page-is, page-not-done, turn-lists}
+use Rattle.afp_mirror_laws.proofs.SweptLemmas.{listing_at, no-page, ok-page, page-is, page-not-done, turn-lists}
 
 abbrev pub same_id : NodeId → NodeId → Bool
 same_id a b = a.0 == b.0
@@ -78,7 +78,7 @@ asked-short : (last : Bool) (piece : List ℕ) → has_asked last piece ≡ true
 asked-short true piece h = grind (arith, nat_tests, h)
 asked-short false piece h = grind (arith, nat_tests, h)
 
-read-of-by : (P : Next → Type 0) (side : Side) (len : ℕ) (last : Bool) (next : List ℕ → Bool → Next) (piece : List ℕ) → P (ends (bad side)) → (has_asked last piece ≡ true → len + length piece ≤ most_fork_bytes → P (next piece last)) → P (read_of side len last next piece)
+pub read-of-by : (P : Next → Type 0) (side : Side) (len : ℕ) (last : Bool) (next : List ℕ → Bool → Next) (piece : List ℕ) → P (ends (bad side)) → (has_asked last piece ≡ true → len + length piece ≤ most_fork_bytes → P (next piece last)) → P (read_of side len last next piece)
 read-of-by P side len last next piece wrong passes =
     if-by P (has_asked last piece) (if nat_le (len + length piece) most_fork_bytes then next piece last else ends (bad side)) (ends (bad side))
     (λ asked. if-by P (nat_le (len + length piece) most_fork_bytes) (next piece last) (ends (bad side)) (λ most. passes asked (at-most (len + length piece) most_fork_bytes most)) (λ k. wrong)) (λ k. wrong)

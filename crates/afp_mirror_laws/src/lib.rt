@@ -4,6 +4,6 @@
 mod rows;
 
 pub use rows::{
-    every_directory_is_listed, every_id_has_one_line, every_node_is_paired, rows_are_exact,
-    rows_are_exact_where_it_comes,
+    every_directory_is_listed, every_fork_is_read_back, every_id_has_one_line,
+    every_node_is_paired, rows_are_exact, rows_are_exact_where_it_comes,
 };

@@ -1,5 +1,6 @@
 //! Laws. Each function says one, and does nothing.
 ghost use Rattle.afp_mirror_laws.specs.Paired as paired;
+ghost use Rattle.afp_mirror_laws.specs.ReadBack as read_back;
 ghost use Rattle.afp_mirror_laws.specs.Reached as reached;
 ghost use Rattle.afp_mirror_laws.specs.Rows as rows;
 ghost use Rattle.afp_mirror_laws.specs.Swept as swept;
@@ -36,4 +37,9 @@ pub fn every_id_has_one_line()
 pub fn rows_are_exact_where_it_comes()
     ensures fit { reached.ReachedIsFit }
     ensures too_many { reached.TooManyIsOneMore }
+{}
+
+/// The last turns of a mirror that is Done read back both forks of each file, and both sides were told the same.
+pub fn every_fork_is_read_back()
+    ensures { read_back.DoneHasReadBack }
 {}
