@@ -11,8 +11,8 @@ use Rattle.afp_base.specs.declared.ids.VolumeId.{VolumeId}
 use Rattle.afp_calls_grammar.specs.declared.grammar.call.Call.{Call}
 use Rattle.afp_replies.specs.declared.list.ListEntry.{ListEntry}
 use Rattle.afp_replies.specs.declared.reply.Reply.{Reply}
-use Rattle.afp_mirror_walk.specs.Asks.{Asked, asked, asked_at, asks, close, of_node, open_fork, read, root, to_check, to_copy}
-use Rattle.afp_mirror_walk.specs.Follows.{Ended, Next, and_then, bad, changed, checked_from, checked_to, checking_of, close_or_read, closed_from, closed_to, compared, copying_of, dirs_before, done, ends, ends_fork, ends_list, first, first_difference, first_id, first_in, first_place, follows, follows_at, fork_in, found_file, found_id_in, goes, has_asked, is_empty, is_first_dir, is_ok, last_dir, line_of, lines_with, list_or_set, listed, listed_rows, looked, made, made_first, made_of, must, needs, next_check, next_dir, next_made, next_place, next_set, place_at, node_in, not_empty, opened_from, opened_to, page_from, piece_in, read_from, read_of, read_piece, read_to, read_told, refused, rows_in, set_dir, set_file, set_or_check, set_or_open, shut_from, shut_or_read, shut_to, source_at, target_at, too_many, volume_in, with_found, with_page, write_or_close, written}
+use Rattle.afp_mirror_walk.specs.Asks.{Asked, asked, asked_at, asks, close, of_node, open_fork, open_volume, read, root, to_check, to_copy}
+use Rattle.afp_mirror_walk.specs.Follows.{Ended, Next, and_then, bad, changed, checked_from, checked_to, checking_of, close_or_read, closed_from, closed_to, compared, copying_of, dirs_before, done, ends, ends_fork, ends_list, first, first_difference, first_id, first_in, first_place, follows, follows_at, fork_in, found_file, found_id_in, goes, has_asked, is_empty, is_first_dir, is_ok, last_dir, line_of, lines_with, list_or_set, listed, listed_rows, looked, made, made_first, made_of, must, needs, next_check, next_dir, next_made, next_place, next_set, place_at, node_in, not_empty, opened_from, opened_source, opened_target, opened_to, page_from, piece_in, read_from, read_of, read_piece, read_to, read_told, refused, rows_in, set_dir, set_file, set_or_check, set_or_open, shut_from, shut_or_read, shut_to, source_at, target_at, too_many, volume_in, with_found, with_page, write_or_close, written}
 use Rattle.afp_mirror_walk.specs.Settings.{found_in}
 use Rattle.afp_mirror_walk.specs.Standing.{Standing}
 use Rattle.afp_mirror_walk.specs.declared.walk.ends.Line.{Line}
@@ -25,7 +25,7 @@ use Rattle.afp_mirror_walk.specs.declared.walk.standing.Made.{Made}
 use Rattle.afp_mirror_walk.specs.declared.walk.standing.Stage.{Stage}
 use Rattle.afp_mirror_walk.specs.declared.walk.standing.Stage.TheVariants as stages
 use Rattle.afp_mirror.specs.Runs.{IsTurn, Leads, Turn, seen}
-use Rattle.afp_mirror_laws.specs.ReadBack.{Child, Closes, DoneHasReadBack, EndsBack, IfDir, IfLast, IsCalled, Reads, ReadsBack, ReadsFork, ReadsOpened, ReadsSame, Then, child_of, children_by, children_in, children_of, fork_told, half, is_last_by, none, piece_told, with_child}
+use Rattle.afp_mirror_laws.specs.ReadBack.{Child, Closes, DoneHasReadBack, EndsBack, HasReadBack, OpensTarget, IfDir, IfLast, IsCalled, Reads, ReadsBack, ReadsFork, ReadsOpened, ReadsSame, Then, child_of, children_by, children_in, children_of, fork_told, half, is_last_by, none, piece_told, volume_told, with_child}
 use Rattle.afp_mirror_laws.specs.Swept.{Listing, listing, lists_of, rows_told}
 use Rattle.afp_mirror_laws.proofs.PairedLemmas.{drop-both, drop-past, has-node, if-any, if-by, less-by, map-append, must-any, needs-any, past-by, same-lines}
 use Rattle.afp_mirror_laws.proofs.ReachedLemmas.{read-of-by}
@@ -43,9 +43,9 @@ known w = known_at w.place.here.source w.nodes w.page
 -- ---- what is still to come of a run that will be Done
 
 -- no list is to come, and the nodes are read back
-record IsSetting (nodes : List Made) (given : List Child) (turns : List Turn) (lines : List Line) : Type 0 where
+record IsSetting (from_volume to_volume : VolumeId) (nodes : List Made) (given : List Child) (turns : List Turn) (lines : List Line) : Type 0 where
   no_more : given ≡ []
-  back : EndsBack (map made_child nodes) lines turns
+  back : EndsBack from_volume to_volume (map made_child nodes) lines turns
 
 -- the nodes from one on are read back
 record IsLeft (from_volume to_volume : VolumeId) (nodes : List Made) (old : List Line) (from : ℕ) (given : List Child) (turns : List Turn) (lines : List Line) : Type 0 where
@@ -83,14 +83,16 @@ abbrev closes_last : ForkRef → (List Turn → Type 0) → List Turn → Type 0
 closes_last to next turns = Then turns (λ u rest. IsCalled u To (close to) × next rest)
 
 abbrev Rest : Stage → Standing → List Child → List Turn → List Line → Type 0
-Rest (stages.SetsDir index) w given turns lines = IsSetting w.nodes given turns lines
+Rest stages.OpensSource w given turns lines = HasReadBack w.source w.target (known w ++ given) lines turns
+Rest stages.OpensTarget w given turns lines = (to_volume : VolumeId) × OpensTarget w.target to_volume turns × EndsBack w.from_volume to_volume (known w ++ given) lines turns
+Rest (stages.SetsDir index) w given turns lines = IsSetting w.from_volume w.to_volume w.nodes given turns lines
 Rest (stages.ChecksFrom checking) w given turns lines = Checked w checking given lines (λ child len next. ReadsFork w.from_volume w.to_volume child checking.resource len next turns)
 Rest (stages.ChecksTo checking) w given turns lines = Checked w checking given lines (λ child len next. ReadsOpened w.to_volume child checking.resource checking.from len next turns)
 Rest (stages.ReadsFrom checking) w given turns lines = Checked w checking given lines (λ child len next. ReadsSame none checking.from checking.to checking.len (in_full checking.from checking.to len next) turns)
 Rest (stages.ReadsTo checking last) w given turns lines = Checked w checking given lines (λ child len next. ReadsSame (half w.piece last) checking.from checking.to checking.len (in_full checking.from checking.to len next) turns)
 Rest (stages.ShutsFrom checking) w given turns lines = Checked w checking given lines (λ child len next. (checking.len ≡ len) × Closes checking.from checking.to next turns)
 Rest (stages.ShutsTo checking) w given turns lines = Checked w checking given lines (λ child len next. (checking.len ≡ len) × closes_last checking.to next turns)
-Rest stage w given turns lines = EndsBack (known w ++ given) lines turns
+Rest stage w given turns lines = EndsBack w.from_volume w.to_volume (known w ++ given) lines turns
 
 abbrev IsIn : Stage → Standing → Type 0
 IsIn stages.OpensSource w = (w.lines ≡ []) × (w.nodes ≡ []) × (w.page ≡ [])
@@ -247,12 +249,10 @@ check-keeps rest w from h =
     (λ less. ((less-by (from + length dirs) (length w.nodes) less, refl), λ given turns lines k. h given turns lines (checked-left w from given turns lines k)))
     (λ past. h [] [] (w.lines ++ dirs) (done-left w from (past-by (from + length dirs) (length w.nodes) past)))
 
-left-setting : (w : Standing) (given : List Child) (turns : List Turn) (lines : List Line) → w.lines ≡ [] → IsLeft w.from_volume w.to_volume w.nodes w.lines 0 given turns lines → IsSetting w.nodes given turns lines
+left-setting : (w : Standing) (given : List Child) (turns : List Turn) (lines : List Line) → w.lines ≡ [] → IsLeft w.from_volume w.to_volume w.nodes w.lines 0 given turns lines → IsSetting w.from_volume w.to_volume w.nodes given turns lines
 left-setting w given turns lines empty h = record {
   no_more = h.no_more;
   back = record {
-    from_volume = w.from_volume;
-    to_volume = w.to_volume;
     before = [];
     after = turns;
     turns_are = refl;
@@ -260,33 +260,33 @@ left-setting w given turns lines empty h = record {
   };
 }
 
-set-or-check-keeps : (rest : Wish) (w : Standing) (o : Option ℕ) → w.lines ≡ [] → ((given : List Child) (turns : List Turn) (lines : List Line) → IsSetting w.nodes given turns lines → rest given turns lines) → Keeps rest (set_or_check w o)
+set-or-check-keeps : (rest : Wish) (w : Standing) (o : Option ℕ) → w.lines ≡ [] → ((given : List Child) (turns : List Turn) (lines : List Line) → IsSetting w.from_volume w.to_volume w.nodes given turns lines → rest given turns lines) → Keeps rest (set_or_check w o)
 set-or-check-keeps rest w None empty h = check-keeps rest w 0 (λ given turns lines k. h given turns lines (left-setting w given turns lines empty k))
 set-or-check-keeps rest w (Some index) empty h = (empty, h)
 
-next-set-keeps : (rest : Wish) (w : Standing) (before : ℕ) → w.lines ≡ [] → ((given : List Child) (turns : List Turn) (lines : List Line) → IsSetting w.nodes given turns lines → rest given turns lines) → Keeps rest (next_set w before)
+next-set-keeps : (rest : Wish) (w : Standing) (before : ℕ) → w.lines ≡ [] → ((given : List Child) (turns : List Turn) (lines : List Line) → IsSetting w.from_volume w.to_volume w.nodes given turns lines → rest given turns lines) → Keeps rest (next_set w before)
 unfolding next_set
 next-set-keeps rest w before empty h = set-or-check-keeps rest w (last_dir w.nodes before) empty h
 
 -- ---- one turn before
 
-one-before : (t : Turn) (children : List Child) (lines : List Line) (turns : List Turn) → EndsBack children lines turns → EndsBack children lines (t ∷ turns)
-one-before t children lines turns h = record { from_volume = h.from_volume; to_volume = h.to_volume; before = t ∷ h.before; after = h.after; turns_are = ap (λ (ts : List Turn). t ∷ ts) h.turns_are; back = h.back }
+one-before : (from_volume to_volume : VolumeId) (t : Turn) (children : List Child) (lines : List Line) (turns : List Turn) → EndsBack from_volume to_volume children lines turns → EndsBack from_volume to_volume children lines (t ∷ turns)
+one-before from_volume to_volume t children lines turns h = record { before = t ∷ h.before; after = h.after; turns_are = ap (λ (ts : List Turn). t ∷ ts) h.turns_are; back = h.back }
 
 abbrev is_known : Standing → Turn → Wish
-is_known w t given turns lines = EndsBack (known w ++ given) lines (t ∷ turns)
+is_known w t given turns lines = EndsBack w.from_volume w.to_volume (known w ++ given) lines (t ∷ turns)
 
 abbrev is_listed : Standing → Turn → Option (List ListEntry) → Wish
-is_listed w t rows given turns lines = EndsBack (known w ++ (children_by w.place.here.source rows ++ given)) lines (t ∷ turns)
+is_listed w t rows given turns lines = EndsBack w.from_volume w.to_volume (known w ++ (children_by w.place.here.source rows ++ given)) lines (t ∷ turns)
 
 abbrev is_setting : Standing → Turn → Wish
-is_setting w t given turns lines = IsSetting w.nodes given (t ∷ turns) lines
+is_setting w t given turns lines = IsSetting w.from_volume w.to_volume w.nodes given (t ∷ turns) lines
 
-before-same : (t : Turn) (children other : List Child) (lines : List Line) (turns : List Turn) → children ≡ other → EndsBack children lines turns → EndsBack other lines (t ∷ turns)
-before-same t children other lines turns same h = one-before t other lines turns (subst (λ (cs : List Child). EndsBack cs lines turns) same h)
+before-same : (from_volume to_volume : VolumeId) (t : Turn) (children other : List Child) (lines : List Line) (turns : List Turn) → children ≡ other → EndsBack from_volume to_volume children lines turns → EndsBack from_volume to_volume other lines (t ∷ turns)
+before-same from_volume to_volume t children other lines turns same h = one-before from_volume to_volume t other lines turns (subst (λ (cs : List Child). EndsBack from_volume to_volume cs lines turns) same h)
 
-on-known : (w : Standing) (t : Turn) (given : List Child) (turns : List Turn) (lines : List Line) → EndsBack (known w ++ given) lines turns → is_known w t given turns lines
-on-known w t given turns lines h = one-before t (known w ++ given) lines turns h
+on-known : (w : Standing) (t : Turn) (given : List Child) (turns : List Turn) (lines : List Line) → EndsBack w.from_volume w.to_volume (known w ++ given) lines turns → is_known w t given turns lines
+on-known w t given turns lines h = one-before w.from_volume w.to_volume t (known w ++ given) lines turns h
 
 -- ---- lists
 
@@ -334,16 +334,16 @@ page-keeps w t rows (Err (not_empty node)) h is = tt
 page-keeps w t rows (Err (changed node place)) h is = tt
 page-keeps w t rows (Ok page) h is =
     if-any (Keeps (is_listed w t (Some rows))) (nat_lt (w.place.start + length page) (2 ^ 32)) (goes (record w { place = record w.place { start = w.place.start + length page }; page = page; stage = stages.Makes })) (ends too_many)
-    (h.0, λ given turns lines more. before-same t (known_at w.place.here.source w.nodes page ++ given) (known w ++ (children_of w.place.here.source rows ++ given)) lines turns (known-listed w page rows given h.1 (children-are w.place.here.source w.nodes [] rows page is)) more) tt
+    (h.0, λ given turns lines more. before-same w.from_volume w.to_volume t (known_at w.place.here.source w.nodes page ++ given) (known w ++ (children_of w.place.here.source rows ++ given)) lines turns (known-listed w page rows given h.1 (children-are w.place.here.source w.nodes [] rows page is)) more) tt
 
 rows-keeps : (w : Standing) (t : Turn) (rows : List ListEntry) → IsIn stages.Lists w → Keeps (is_listed w t (Some rows)) (listed_rows w rows)
 unfolding listed_rows
 rows-keeps w t [] h = tt
 rows-keeps w t (row ∷ rows) h = page-keeps w t (row ∷ rows) (page_from w.nodes [] (row ∷ rows)) h refl
 
-setting-known : (w : Standing) (t : Turn) (given : List Child) (turns : List Turn) (lines : List Line) → w.page ≡ [] → IsSetting w.nodes given turns lines → is_known w t given turns lines
+setting-known : (w : Standing) (t : Turn) (given : List Child) (turns : List Turn) (lines : List Line) → w.page ≡ [] → IsSetting w.from_volume w.to_volume w.nodes given turns lines → is_known w t given turns lines
 setting-known w t given turns lines empty h =
-    before-same t (map made_child w.nodes) (known w ++ given) lines turns
+    before-same w.from_volume w.to_volume t (map made_child w.nodes) (known w ++ given) lines turns
     (sym (known-none w.place.here.source w empty) ∙ sym (append-nil (known w)) ∙ ap (λ (cs : List Child). known w ++ cs) (sym h.no_more)) h.back
 
 other-place : (w : Standing) (here : NodeId) (given : List Child) → w.page ≡ [] → known_at here w.nodes w.page ++ given ≡ known w ++ given
@@ -353,7 +353,7 @@ place-keeps : (w : Standing) (t : Turn) (o : Option ℕ) → IsIn stages.Lists w
 place-keeps w t None h = next-set-keeps (is_known w t) w (length w.nodes) h.0 (λ given turns lines k. setting-known w t given turns lines h.1 k)
 place-keeps w t (Some index) h =
     let place = place_at (slice_get w.nodes index) index w.place in
-    (h, λ given turns lines more. before-same t (known_at place.here.source w.nodes w.page ++ given) (known w ++ given) lines turns (other-place w place.here.source given h.1) more)
+    (h, λ given turns lines more. before-same w.from_volume w.to_volume t (known_at place.here.source w.nodes w.page ++ given) (known w ++ given) lines turns (other-place w place.here.source given h.1) more)
 
 next-place-keeps : (w : Standing) (t : Turn) → IsIn stages.Lists w → Keeps (is_known w t) (next_place w)
 unfolding next_place
@@ -377,9 +377,9 @@ known-on w target f page is =
     ∙ ap (λ (fs : List Found). known_at here w.nodes fs) (sym is)
 
 first-on : (w : Standing) (t : Turn) (target : NodeId) (f : Found) (page : List Found) (given : List Child) (turns : List Turn) (lines : List Line) → w.page ≡ f ∷ page
-    → EndsBack (known_at w.place.here.source (w.nodes ++ made_of w.place.here f target ∷ []) page ++ given) lines turns → is_known w t given turns lines
+    → EndsBack w.from_volume w.to_volume (known_at w.place.here.source (w.nodes ++ made_of w.place.here f target ∷ []) page ++ given) lines turns → is_known w t given turns lines
 first-on w t target f page given turns lines is h =
-    before-same t (known_at w.place.here.source (w.nodes ++ made_of w.place.here f target ∷ []) page ++ given) (known w ++ given) lines turns (ap (λ (cs : List Child). cs ++ given) (known-on w target f page is)) h
+    before-same w.from_volume w.to_volume t (known_at w.place.here.source (w.nodes ++ made_of w.place.here f target ∷ []) page ++ given) (known w ++ given) lines turns (ap (λ (cs : List Child). cs ++ given) (known-on w target f page is)) h
 
 first-keeps : (w : Standing) (t : Turn) (target : NodeId) (page : List Found) → w.lines ≡ [] → w.page ≡ page → Keeps (is_known w t) (made_first w target page)
 first-keeps w t target [] h is = tt
@@ -397,7 +397,7 @@ looks-keeps w t c reply h =
     let listed_next : Next = goes (record w { place = first_place; stage = stages.Lists }) in
     if-any (Keeps (is_known w t)) (is_ok c) given_node (if ends_list c then listed_next else ends (refused To c root)) (needs-any (Keeps (is_known w t)) To (first_in (rows_in reply)) (λ node. ends (not_empty node)) tt (λ node. tt))
     (if-any (Keeps (is_known w t)) (ends_list c) listed_next (ends (refused To c root))
-    ((h.0, h.2), λ given turns lines more. before-same t (known_at root w.nodes w.page ++ given) (known w ++ given) lines turns (other-place w root given h.2) more) tt)
+    ((h.0, h.2), λ given turns lines more. before-same w.from_volume w.to_volume t (known_at root w.nodes w.page ++ given) (known w ++ given) lines turns (other-place w root given h.2) more) tt)
 
 list-keeps : (w : Standing) (t : Turn) (c : Code) (reply : Reply) → IsIn stages.Lists w → Keeps (is_listed w t (rows_told c (Some reply))) (listed w c reply)
 unfolding listed
@@ -419,7 +419,7 @@ set-dir-keeps : (w : Standing) (t : Turn) (index : ℕ) (c : Code) → w.lines �
 unfolding set_dir
 set-dir-keeps w t index c h =
     must-any (Keeps (is_setting w t)) c To (target_at (slice_get w.nodes index)) (next_set w index) tt
-    (next-set-keeps (is_setting w t) w index h (λ given turns lines k. record { no_more = k.no_more; back = one-before t (map made_child w.nodes) lines turns k.back }))
+    (next-set-keeps (is_setting w t) w index h (λ given turns lines k. record { no_more = k.no_more; back = one-before w.from_volume w.to_volume t (map made_child w.nodes) lines turns k.back }))
 
 reads-keeps : (w : Standing) (t : Turn) (copying : Copying) (c : Code) (reply : Reply) → w.lines ≡ [] → Keeps (is_known w t) (read_piece w copying c reply)
 unfolding read_piece
@@ -640,10 +640,44 @@ rest_at stage w t reply given turns lines = Rest stage w (given_at stage w t.ans
 early-keeps : {A : Type 0} (w : Standing) (t : Turn) (side : Side) (node : NodeId) (o : Option A) (f : A → Next) → ((v : A) → Keeps (is_known w t) (f v)) → Keeps (is_known w t) (must t.answer.code side node (needs side o f))
 early-keeps w t side node o f k = must-any (Keeps (is_known w t)) t.answer.code side node (needs side o f) tt (needs-any (Keeps (is_known w t)) side o f tt k)
 
+first-is : (t : Turn) (side : Side) (call : Call) (about : NodeId) (a : Asked) → Some (asked side call about) ≡ Some a → t.side ≡ a.side → t.call ≡ a.call → is_ok t.answer.code ≡ true → IsCalled t side call
+first-is t side call about a same side_is call_is ok = called t side call about a (ap (λ (o : Option Asked). asked_or a o) (sym same)) side_is call_is ok
+
+opens-source-keeps : (w : Standing) (t : Turn) (reply : Reply) → IsIn stages.OpensSource w → IsAsked stages.OpensSource w t → t.reply ≡ Some reply → Keeps (rest_at stages.OpensSource w t reply) (opened_source w t.answer.code reply)
+opens-source-keeps w t reply h a is =
+    let rest : Wish = rest_at stages.OpensSource w t reply in
+    let next : VolumeId → Next = λ v. goes (record w { from_volume = v; stage = stages.OpensTarget }) in
+    must-with (Keeps rest) t.answer.code From root (needs From (volume_in reply) next) tt
+    (λ ok. needs-with (Keeps rest) From (volume_in reply) next tt
+    (λ v told. (
+      h,
+      λ given turns lines more. record {
+        from_volume = v;
+        to_volume = more.0;
+        opened = (first-is t From (open_volume w.source) root a.asked a.next a.side a.call ok, ap (λ (o : Option Reply). volume_told o) is ∙ told, more.1);
+        ended = one-before v more.0 t (known w ++ given) lines turns more.2;
+      },
+    )))
+
+opens-target-keeps : (w : Standing) (t : Turn) (reply : Reply) → IsIn stages.OpensTarget w → IsAsked stages.OpensTarget w t → t.reply ≡ Some reply → Keeps (rest_at stages.OpensTarget w t reply) (opened_target w t.answer.code reply)
+opens-target-keeps w t reply h a is =
+    let rest : Wish = rest_at stages.OpensTarget w t reply in
+    let next : VolumeId → Next = λ v. goes (record w { to_volume = v; stage = stages.Looks }) in
+    must-with (Keeps rest) t.answer.code To root (needs To (volume_in reply) next) tt
+    (λ ok. needs-with (Keeps rest) To (volume_in reply) next tt
+    (λ v told. (
+      h,
+      λ given turns lines more. (
+        v,
+        (first-is t To (open_volume w.target) root a.asked a.next a.side a.call ok, ap (λ (o : Option Reply). volume_told o) is ∙ told),
+        one-before w.from_volume v t (known w ++ given) lines turns more,
+      ),
+    )))
+
 step : (stage : Stage) (w : Standing) (t : Turn) (reply : Reply) → IsIn stage w → IsAsked stage w t → t.reply ≡ Some reply → Keeps (rest_at stage w t reply) (follows_at stage w t.answer.code reply)
 unfolding found_file opened_from opened_to closed_from
-step stages.OpensSource w t reply h a is = early-keeps w t From root (volume_in reply) (λ v. goes (record w { from_volume = v; stage = stages.OpensTarget })) (λ v. (h, λ given turns lines more. on-known w t given turns lines more))
-step stages.OpensTarget w t reply h a is = early-keeps w t To root (volume_in reply) (λ v. goes (record w { to_volume = v; stage = stages.Looks })) (λ v. (h, λ given turns lines more. on-known w t given turns lines more))
+step stages.OpensSource w t reply h a is = opens-source-keeps w t reply h a is
+step stages.OpensTarget w t reply h a is = opens-target-keeps w t reply h a is
 step stages.Looks w t reply h a is = looks-keeps w t t.answer.code reply h
 step stages.Lists w t reply h a is = list-keeps w t t.answer.code reply h
 step stages.Makes w t reply h a is = makes-keeps w t t.answer.code reply h

@@ -7,8 +7,8 @@ use Rattle.afp_base.specs.declared.ids.VolumeId.{VolumeId}
 use Rattle.afp_calls_grammar.specs.declared.grammar.call.Call.{Call}
 use Rattle.afp_replies.specs.declared.list.ListEntry.{ListEntry}
 use Rattle.afp_replies.specs.declared.reply.Reply.{Reply}
-use Rattle.afp_mirror_walk.specs.Asks.{close, open_fork, read}
-use Rattle.afp_mirror_walk.specs.Follows.{done, ends, ends_fork, first, fork_in, goes, is_ok, piece_in}
+use Rattle.afp_mirror_walk.specs.Asks.{close, open_fork, open_volume, read}
+use Rattle.afp_mirror_walk.specs.Follows.{done, ends, ends_fork, first, fork_in, goes, is_ok, piece_in, volume_in}
 use Rattle.afp_mirror_walk.specs.Settings.{found_in}
 use Rattle.afp_mirror_walk.specs.declared.walk.ends.Line.{Line}
 use Rattle.afp_mirror_walk.specs.declared.walk.ends.Side.{Side}
@@ -120,14 +120,30 @@ ReadsBack from_volume to_volume (child ∷ children) (line ∷ lines) turns = (c
     (ReadsFork from_volume to_volume child false line.data_len (λ more. ReadsFork from_volume to_volume child true line.resource_len (λ rest. ReadsBack from_volume to_volume children lines rest) more) turns)
 
 -- Turns end with such as read these nodes back.
-pub record EndsBack (children : List Child) (lines : List Line) (turns : List Turn) : Type 0 where
-  pub from_volume : VolumeId
-  pub to_volume : VolumeId
+pub record EndsBack (from_volume to_volume : VolumeId) (children : List Child) (lines : List Line) (turns : List Turn) : Type 0 where
   pub before : List Turn
   pub after : List Turn
   pub turns_are : turns ≡ before ++ after
   pub back : ReadsBack from_volume to_volume children lines after
 
+abbrev pub volume_told : Option Reply → Option VolumeId
+volume_told None = None
+volume_told (Some reply) = volume_in reply
+
+-- Turns begin with the opening of the volumes of these names, and are told these ids.
+abbrev pub OpensTarget : List ℕ → VolumeId → List Turn → Type 0
+OpensTarget target to_volume turns = Then turns (λ t rest. IsCalled t To (open_volume target) × (volume_told t.reply ≡ Some to_volume))
+
+abbrev pub OpensBoth : List ℕ → List ℕ → VolumeId → VolumeId → List Turn → Type 0
+OpensBoth source target from_volume to_volume turns = Then turns (λ t rest. IsCalled t From (open_volume source) × (volume_told t.reply ≡ Some from_volume) × OpensTarget target to_volume rest)
+
+-- Turns open two volumes, and end with such as read these nodes of theirs back.
+pub record HasReadBack (source target : List ℕ) (children : List Child) (lines : List Line) (turns : List Turn) : Type 0 where
+  pub from_volume : VolumeId
+  pub to_volume : VolumeId
+  pub opened : OpensBoth source target from_volume to_volume turns
+  pub ended : EndsBack from_volume to_volume children lines turns
+
 -- the law: at Done the last turns read back each node that the source's lists gave
 abbrev pub DoneHasReadBack : Type 0
-DoneHasReadBack = (source target : List ℕ) (turns : List Turn) (lines : List Line) → Leads (goes (first source target)) turns (ends (done lines)) → EndsBack (children_in (lists_of turns)) lines turns
+DoneHasReadBack = (source target : List ℕ) (turns : List Turn) (lines : List Line) → Leads (goes (first source target)) turns (ends (done lines)) → HasReadBack source target (children_in (lists_of turns)) lines turns
