@@ -32,7 +32,7 @@ use Rattle.afp_mirror_laws.proofs.ReachedLemmas.{read-of-by}
 use Rattle.afp_mirror_laws.proofs.SweptLemmas.{IsMore, found-more, listing_at, no-page, not-done, ok-page, page-not-done, stands-at, turn-lists}
 
 abbrev made_child : Made → Child
-made_child node = record { parent = node.parent.source; id = node.source; name = node.name }
+made_child node = record { parent = node.parent.source; id = node.source; dir = node.dir; name = node.name }
 
 abbrev known_at : NodeId → List Made → List Found → List Child
 known_at here nodes page = map made_child nodes ++ map (child_of here) page
@@ -182,6 +182,7 @@ dirs-back-by : (from_volume to_volume : VolumeId) (node : Made) (nodes : List Ma
     → ReadsBack from_volume to_volume (map made_child (node ∷ nodes)) ((if b then line_of node 0 0 ∷ dirs_before nodes else []) ++ more) turns
 dirs-back-by from_volume to_volume node nodes more turns true is rest h = (
   refl,
+  refl,
   subst (λ (b : Bool). IfDir b (ReadsBack from_volume to_volume (map made_child nodes) (dirs_before nodes ++ more) turns) (ReadsFork from_volume to_volume (made_child node) false 0 (λ m. ReadsFork from_volume to_volume (made_child node) true 0 (λ left. ReadsBack from_volume to_volume (map made_child nodes) (dirs_before nodes ++ more) left) m) turns)) (sym is) (rest h),
 )
 dirs-back-by from_volume to_volume node nodes more turns false is rest h = h
@@ -210,7 +211,7 @@ file-behind (first ∷ nodes) node rest h = file-behind-by first nodes node rest
 line-back : (from_volume to_volume : VolumeId) (node : Made) (rest : List Made) (data_len resource_len : ℕ) (more : List Line) (turns : List Turn) → node.dir ≡ false
     → ReadsFork from_volume to_volume (made_child node) false data_len (λ m. ReadsFork from_volume to_volume (made_child node) true resource_len (ReadsBack from_volume to_volume (map made_child rest) more) m) turns
     → ReadsBack from_volume to_volume (map made_child (node ∷ rest)) (line_of node data_len resource_len ∷ more) turns
-line-back from_volume to_volume node rest data_len resource_len more turns is h = (refl, subst (λ (b : Bool). IfDir b (ReadsBack from_volume to_volume (map made_child rest) more turns) (ReadsFork from_volume to_volume (made_child node) false data_len (λ m. ReadsFork from_volume to_volume (made_child node) true resource_len (ReadsBack from_volume to_volume (map made_child rest) more) m) turns)) (sym is) h)
+line-back from_volume to_volume node rest data_len resource_len more turns is h = (refl, refl, subst (λ (b : Bool). IfDir b (ReadsBack from_volume to_volume (map made_child rest) more turns) (ReadsFork from_volume to_volume (made_child node) false data_len (λ m. ReadsFork from_volume to_volume (made_child node) true resource_len (ReadsBack from_volume to_volume (map made_child rest) more) m) turns)) (sym is) h)
 
 checked-left : (w : Standing) (from : ℕ) (given : List Child) (turns : List Turn) (lines : List Line)
     → IsChecked w.from_volume w.to_volume w.nodes (w.lines ++ dirs_before (drop from w.nodes)) (from + length (dirs_before (drop from w.nodes))) false 0 given lines (λ child len next. ReadsFork w.from_volume w.to_volume child false len next turns)

@@ -17,15 +17,16 @@ use Rattle.afp_mirror_walk.specs.declared.walk.standing.Found.{Found}
 use Rattle.afp_mirror.specs.Runs.{Leads, Turn}
 use Rattle.afp_mirror_laws.specs.Swept.{Listing, lists_of}
 
--- A node that a list of the source gave: in which directory, its id, and its name.
+-- A node that a list of the source gave: in which directory, its id, whether it is one, and its name.
 pub record Child : Type 0 where
   pub parent : NodeId
   pub id : NodeId
+  pub dir : Bool
   pub name : List ℕ
 
 -- the nodes that lists gave, in their order
 abbrev pub child_of : NodeId → Found → Child
-child_of parent f = record { parent = parent; id = f.id; name = f.name }
+child_of parent f = record { parent = parent; id = f.id; dir = f.dir; name = f.name }
 
 abbrev pub with_child : NodeId → Option Found → List Child → List Child
 with_child parent None children = children
@@ -115,7 +116,7 @@ abbrev pub ReadsBack : VolumeId → VolumeId → List Child → List Line → Li
 ReadsBack from_volume to_volume [] [] turns = turns ≡ []
 ReadsBack from_volume to_volume [] (line ∷ lines) turns = ⊥
 ReadsBack from_volume to_volume (child ∷ children) [] turns = ⊥
-ReadsBack from_volume to_volume (child ∷ children) (line ∷ lines) turns = (child.id ≡ line.source) × IfDir line.dir
+ReadsBack from_volume to_volume (child ∷ children) (line ∷ lines) turns = (child.id ≡ line.source) × (child.dir ≡ line.dir) × IfDir line.dir
     (ReadsBack from_volume to_volume children lines turns)
     (ReadsFork from_volume to_volume child false line.data_len (λ more. ReadsFork from_volume to_volume child true line.resource_len (λ rest. ReadsBack from_volume to_volume children lines rest) more) turns)
 
