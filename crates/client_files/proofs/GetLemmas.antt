@@ -29,10 +29,10 @@ once_told reference count at before old answer (Ends gots.BadReply) after new lo
 -- one more exchange behind others
 pub more_log : {F : Type 0} → (before mid after : Asked F) (xs ys : List Exchange) → mid ≡ with_more before xs → after ≡ with_more mid ys → after ≡ with_more before (xs ++ ys)
 more_log before mid after xs ys h k =
-    k ∙ ap (λ a. with_more a ys) h ∙ ap (λ (all : List Exchange). record { fixed = before.fixed; exchanges = all }) (append_assoc before.exchanges xs ys)
+    k ∙ ap (λ a. with_more a ys) h ∙ ap (λ (all : List Exchange). record before { exchanges = all }) (append_assoc before.exchanges xs ys)
 
 pub none_log : {F : Type 0} → (before : Asked F) → before ≡ with_more before []
-none_log before = ap (λ (xs : List Exchange). record { fixed = before.fixed; exchanges = xs }) (sym (append-nil before.exchanges))
+none_log before = ap (λ (xs : List Exchange). record before { exchanges = xs }) (sym (append-nil before.exchanges))
 
 pub snoc_reads : (reference : ForkRef) (count at : ℕ) (xs : List Exchange) (x : Exchange) → ReadsOn reference count at xs → x.call ≡ read_at reference (at + length (told_bytes xs)) count → x.answer.code ≡ code.Ok → ReadsOn reference count at (xs ++ x ∷ [])
 snoc_reads reference count at [] x h c ok = (subst (λ (n : ℕ). x.call ≡ read_at reference n count) (omega arith) c, ok, tt)

@@ -5,7 +5,7 @@ use Rattle.afp_base.specs.declared.ids.ForkRef.{ForkRef}
 use Rattle.afp_outside.specs.ends.Sink.{SinkState}
 use Rattle.afp_outside.specs.ends.Whole.{Prints, PrintsPart}
 use Rattle.client_script_commands.specs.commands.Replies.{piece_in}
-use Rattle.client_script_commands.specs.parts.Parts.{Asked, Exchange, with_more}
+use Rattle.client_script_commands.specs.parts.Parts.{Asked, Exchange, with_more, with_unanswered}
 use Rattle.client_script_commands.specs.declared.parts.asker.Answer.{Answer}
 use Rattle.client_files.specs.Requests.{end_of_places, read_at}
 use Rattle.client_files.specs.declared.get.Got.{Got}
@@ -46,9 +46,9 @@ pub record ReadTold {E F : Type 0} (reference : ForkRef) (count at : ℕ) (befor
   pub log : after ≡ with_more before ((record { call = read_at reference at count; answer = answer }) ∷ [])
   pub takes : TakesRead answer old step new
 
--- one read; where no answer comes, nothing is written
+-- one read; where it gets no answer, nothing is written
 abbrev pub GetsOnce : {E F : Type 0} → ForkRef → ℕ → ℕ → Asked F → SinkState → Step E → Asked F → SinkState → Type 0
-GetsOnce reference count at before old (Ends (gots.Ended end)) after new = (after ≡ before) × (new ≡ old)
+GetsOnce reference count at before old (Ends (gots.Ended end)) after new = (after ≡ with_unanswered before (read_at reference at count)) × (new ≡ old)
 GetsOnce reference count at before old step after new = ReadTold reference count at before old step after new
 
 -- how the last read ends them all: the end was read, and this is the fork's length; a reply passes the last place; or as the read ended

@@ -5,7 +5,7 @@ use Rattle.afp_base.specs.declared.ids.ForkRef.{ForkRef}
 use Rattle.afp_outside.specs.ends.Source.{SourceState}
 use Rattle.afp_replies.specs.declared.reply.Reply.{Reply}
 use Rattle.afp_replies.specs.declared.reply.Reply.TheVariants.{EndExt}
-use Rattle.client_script_commands.specs.parts.Parts.{Asked, Exchange, with_more}
+use Rattle.client_script_commands.specs.parts.Parts.{Asked, Exchange, with_more, with_unanswered}
 use Rattle.client_script_commands.specs.declared.parts.asker.Answer.{Answer}
 use Rattle.client_files.specs.Requests.{carried, end_of_places, write_at}
 use Rattle.client_files.specs.Sources.{Gives, IsAtEnd, Loses}
@@ -59,9 +59,9 @@ pub record WriteTold {E F : Type 0} (reference : ForkRef) (at : ℕ) (piece : Li
   pub places : at + length piece < end_of_places
   pub takes : TakesWrite answer (length piece) (at + length piece) step
 
--- one write; where no answer comes, or the piece would pass the last place, none is told
+-- one write, which may get no answer; a piece that would pass the last place is not written
 abbrev pub PutsPiece : {E F : Type 0} → ForkRef → ℕ → List ℕ → Asked F → Step E → Asked F → Type 0
-PutsPiece reference at piece before (Ends (puts.Ended end)) after = after ≡ before
+PutsPiece reference at piece before (Ends (puts.Ended end)) after = (after ≡ with_unanswered before (write_at reference at piece)) × (at + length piece < end_of_places)
 PutsPiece reference at piece before (Ends puts.TooLong) after = (after ≡ before) × (end_of_places ≤ at + length piece)
 PutsPiece reference at piece before step after = WriteTold reference at piece before step after
 

@@ -5,7 +5,7 @@ use Rattle.afp_base.specs.declared.code.Code.TheVariants as code
 use Rattle.afp_base.specs.declared.ids.ForkRef.{ForkRef}
 use Rattle.afp_outside.specs.ends.Source.{SourceState}
 use Rattle.client_script_commands.specs.commands.Replies.{piece_in}
-use Rattle.client_script_commands.specs.parts.Parts.{Asked, Exchange, with_more}
+use Rattle.client_script_commands.specs.parts.Parts.{Asked, Exchange, with_more, with_unanswered}
 use Rattle.client_script_commands.specs.declared.parts.asker.Answer.{Answer}
 use Rattle.client_files.specs.Requests.{end_of_places, read_at}
 use Rattle.client_files.specs.Sources.{Gives, GivesThenFails, IsAtEnd}
@@ -31,12 +31,13 @@ Parts [] more source = ⊥
 Parts (x ∷ left) [] source = IsAtEnd source
 Parts (x ∷ left) (y ∷ more) source = x ≢ y
 
--- Two pieces have so many bytes in common, at their front, and then part, or the one that was given is all of them.
+-- what is left of two pieces parts at once by its first bytes, or nothing is left of the one that was given
 abbrev pub PartsIn : List ℕ → List ℕ → Type 0
 PartsIn left [] = Unit {0}
 PartsIn [] (y ∷ more) = ⊥
 PartsIn (x ∷ left) (y ∷ more) = x ≢ y
 
+-- Two pieces have so many bytes in common, at their front, and then part, or the one that was given is all of them.
 pub record Shares (given piece : List ℕ) (n : ℕ) : Type 0 where
   pub same : List ℕ
   pub left : List ℕ
@@ -113,9 +114,9 @@ pub record ReadTold {E F : Type 0} (reference : ForkRef) (count at : ℕ) (befor
   pub log : after ≡ with_more before ((record { call = read_at reference at count; answer = answer }) ∷ [])
   pub takes : TakesRead answer at old step new
 
--- one read; where no answer comes, the source is not read
+-- one read; where it gets no answer, the source is not read
 abbrev pub VerifiesOnce : {E F : Type 0} → ForkRef → ℕ → ℕ → Asked F → SourceState → Step E → Asked F → SourceState → Type 0
-VerifiesOnce reference count at before old (Ends (verified.Ended end)) after new = (after ≡ before) × (new ≡ old)
+VerifiesOnce reference count at before old (Ends (verified.Ended end)) after new = (after ≡ with_unanswered before (read_at reference at count)) × (new ≡ old)
 VerifiesOnce reference count at before old step after new = ReadTold reference count at before old step after new
 
 -- A fork was read on from this place, and compared: reads that were told the source's bytes, and the last one.
