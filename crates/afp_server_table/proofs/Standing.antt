@@ -390,10 +390,6 @@ module _ {L A : Type 0} (state : L → LinkState) (passed : A → Passed) (house
     ends-where at end slots count door b c over leaves s =
         ends-by end slots count door b c over.1 leaves (subst (λ (e : Option WorkerEnd). LinksStand state passed house turns old a e slots count door b) over.0 s)
 
-    -- nothing was done
-    pub serves_none : (places : List ℕ) × Grows a places a × ServesPoll state passed house turns a.start a.history old places ends.Memory old
-    serves_none = ([], grows-none a, (refl, refl))
-
     pub stand-door-at : (end : Option WorkerEnd) (slots : List (Option (SeatState L A))) (count : ℕ) (door new : DoorState L) (b : Shown) → new ≡ door → LinksStand state passed house turns old a end slots count door b
         → LinksStand state passed house turns old a end slots count new b
     stand-door-at end slots count door new b same s = subst (λ (d : DoorState L). LinksStand state passed house turns old a end slots count d b) (sym same) s

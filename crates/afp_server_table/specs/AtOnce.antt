@@ -82,8 +82,8 @@ pub record FailsAtOnce {L P : Type 0} (state : L → LinkState) (passed : P → 
   pub closed : new.closed ≡ false
   pub fault : CountsOn 1 old.faults new.faults
 
--- All links of a door at once, by why there were no more; where there was no memory, no link was taken and nothing asked.
+-- All links of a door at once, by why there were no more; want of memory is no reason.
 abbrev pub ServesPoll : {L P : Type 0} → (L → LinkState) → (P → Passed) → Household → ℕ → World → List Entry → DoorState L → List ℕ → WorkerEnd → DoorState L → Type 0
 ServesPoll state passed house turns start history old places ends.Closed new = ClosesAtOnce state passed house turns start history old places new
 ServesPoll state passed house turns start history old places ends.Failed new = FailsAtOnce state passed house turns start history old places new
-ServesPoll state passed house turns start history old places ends.Memory new = (new ≡ old) × (places ≡ [])
+ServesPoll state passed house turns start history old places ends.Memory new = ⊥

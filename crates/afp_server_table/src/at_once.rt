@@ -138,8 +138,9 @@ fn is_over<L, A>(end: Option<WorkerEnd>, links: &Links<L, A>) -> Option<WorkerEn
     if links.is_empty() { end } else { None }
 }
 
-/// Serves all links that come through the door, in a room that was taken.
-fn serve_in<R: Wait, P: Readiness, T: Teller, G: Gate>(
+/// Serves all links that come through the door at once, in turns, and hands each back once it has ended, until the door is closed
+/// or fails and none is left; where it is closed, it then asks to drain. The room is lent to the link whose turn it is.
+pub fn serve_at_once<R: Wait, P: Readiness, T: Teller, G: Gate>(
     rt: &R,
     alloc: Global,
     house: &House,
@@ -157,6 +158,7 @@ where
     ensures fixed { T.fixed teller.new ≡ T.fixed teller.old }
     ensures serves { (places : List ℕ) × Grows (T.shown teller.old) places (T.shown teller.new)
         × ServesPoll P.Link.link_state G.passed house.now turns (T.shown teller.old).start (T.shown teller.new).history (P.door_state poll.old) places result (P.door_state poll.new) }
+    ensures sound { IsSoundShown (T.shown teller.new) }
 {
     let mut links = Links::new(alloc);
     let mut ready = Vec::new(alloc);
@@ -185,34 +187,4 @@ where
         );
     }
     unreachable!()
-}
-
-/// Serves all links that come through the door at once, in turns, and hands each back once it has ended, until the door is closed
-/// or fails and none is left; where it is closed, it then asks to drain.
-#[tactic(auto, using(crate::proofs::Standing::serves_none))]
-pub fn serve_at_once<R: Wait, P: Readiness, T: Teller, G: Gate>(
-    rt: &R,
-    alloc: Global,
-    house: &House,
-    poll: &mut P,
-    teller: &mut T,
-    gate: &G,
-    turns: u64,
-) -> WorkerEnd
-where
-    P::Link: Drop,
-    requires open { (P.door_state poll.old).closed ≡ false }
-    requires turns { turns < 2 ^ 63 }
-    ensures fixed { T.fixed teller.new ≡ T.fixed teller.old }
-    ensures serves { (places : List ℕ) × Grows (T.shown teller.old) places (T.shown teller.new)
-        × ServesPoll P.Link.link_state G.passed house.now turns (T.shown teller.old).start (T.shown teller.new).history (P.door_state poll.old) places result (P.door_state poll.new) }
-    ensures sound { IsSoundShown (T.shown teller.new) }
-{
-    match TurnRoom::new(alloc, house) {
-        Ok(room) => {
-            let mut room = room;
-            serve_in(rt, alloc, house, poll, &mut room, teller, gate, turns)
-        }
-        Err(_) => WorkerEnd::Memory,
-    }
 }

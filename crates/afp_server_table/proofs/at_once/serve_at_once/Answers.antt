@@ -3,7 +3,7 @@ use Rattle.afp_outside.specs.ends.Listener.{DoorState}
 use Rattle.afp_serial.specs.StatusBlock.{status_block}
 use Rattle.afp_server_table.specs.lemma.Links.{LinksStand}
 use Rattle.afp_server_table.proofs.Standing.{ends-where, stand-door-at, stand-none}
-use Rattle.afp_server_table.proofs.at_once.serve_in.Goals as goal
+use Rattle.afp_server_table.proofs.at_once.serve_at_once.Goals as goal
 
 pub loop-init : goal.loop-init
 loop-init g c = record {

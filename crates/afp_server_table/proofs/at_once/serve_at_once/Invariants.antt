@@ -1,7 +1,7 @@
 use Rattle.std.proofs.Common.{◌≡◌}
 use Rattle.afp_serial.specs.StatusBlock.{status_block}
 use Rattle.afp_server_table.specs.lemma.Links.{LinksStand}
-use Rattle.afp_server_table.proofs.at_once.serve_in.Given as goal
+use Rattle.afp_server_table.proofs.at_once.serve_at_once.Given as goal
 
 abbrev pub invariant-loop : goal.invariant-loop
 invariant-loop g l = record {
