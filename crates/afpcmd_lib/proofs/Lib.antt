@@ -1,0 +1,2 @@
+pub mod AskableLemmas
+pub mod StatusLemmas
